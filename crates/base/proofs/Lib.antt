@@ -1,0 +1,6 @@
+-- Laws of the definitions in specs/, of xor, and of the loops that store a table or columns place by place.
+pub mod Table
+pub mod Iterate
+pub mod Every
+pub mod Quad
+pub mod Xor

@@ -1,0 +1,59 @@
+-- A table's length and elements, and what a loop that stores one place by place keeps. Assumes nothing.
+use mathlib.Core.List.{List, _∷_}
+use mathlib.Core.Path.{_≡_, refl, sym, ap, _∙_}
+use Prim.Native.Nat.{ℕ, zero, suc, _+_, _≤_, _<_, suc-le-suc}
+use native.Mathlib.Nat.{le-of-suc-le-suc, not-suc-le-zero, zero-lt-suc}
+use native.Mathlib.Decide.{decLt}
+use native.Mathlib.Omega.{arith}
+use lib.ListN.{length, getD, set, length-set}
+use lib.Seq.{getD-set-same, getD-set-other, ext-getD}
+use Rattle.base.specs.Table.{table}
+
+pub length-table {ℓ} : {A : Type ℓ} (n : ℕ) (f : ℕ → A) → length (table n f) ≡ n
+unfolding table
+length-table zero f = refl
+length-table (suc n) f = ap suc (length-table n (λ i. f (suc i)))
+
+pub getD-table {ℓ} : {A : Type ℓ} (n : ℕ) (f : ℕ → A) (i : ℕ) (d : A) → i < n → getD (table n f) i d ≡ f i
+unfolding table
+getD-table zero f i d h = absurd (not-suc-le-zero h)
+getD-table (suc n) f zero d h = refl
+getD-table (suc n) f (suc i) d h = getD-table n (λ j. f (suc j)) i d (le-of-suc-le-suc h)
+
+pub table-same {ℓ} : {A : Type ℓ} (n : ℕ) (f g : ℕ → A) → ((i : ℕ) → i < n → f i ≡ g i) → table n f ≡ table n g
+unfolding table
+table-same zero f g h = refl
+table-same (suc n) f g h = λ k. h 0 (zero-lt-suc n) k ∷ table-same n (λ i. f (suc i)) (λ i. g (suc i)) (λ i l. h (suc i) (suc-le-suc l)) k
+
+-- a list of n elements is the table of them
+pub table-getD : {A : Type 0} (n : ℕ) (d : A) (l : List A) → length l ≡ n → table n (λ i. getD l i d) ≡ l
+table-getD n d l e =
+    ext-getD d (table n (λ i. getD l i d)) l (length-table n _ ∙ sym e)
+    (λ i h. getD-table n (λ j. getD l j d) i d (omega (arith, length-table n (λ j. getD l j d))))
+
+-- the first i of n elements are stored
+pub record Tabled {A : Type 0} (n : ℕ) (f : ℕ → A) (d : A) (out : List A) (i : ℕ) : Type 0 where
+  pub upto : i ≤ n
+  pub long : length out ≡ n
+  pub done : (j : ℕ) → j < i → getD out j d ≡ f j
+
+module _ {A : Type 0} {n : ℕ} {f : ℕ → A} {d : A} {out : List A} where
+  pub tabled-none : length out ≡ n → Tabled n f d out 0
+  tabled-none e = record { upto = omega arith; long = e; done = λ j h. absurd (not-suc-le-zero h) }
+
+  module _ {i : ℕ} (w : Tabled n f d out i) where
+    pub tabled-more : {v : A} → i < n → v ≡ f i → Tabled n f d (set out i v) (i + 1)
+    tabled-more {v} h e =
+        record { upto = omega arith; long = length-set out i v ∙ w .long; done = λ j hj. at j hj (decLt j i) }
+      where
+        at : (j : ℕ) → j < i + 1 → Dec (j < i) → getD (set out i v) j d ≡ f j
+        at j hj (yes l) = getD-set-other out i j v d (λ q. omega arith) ∙ w .done j l
+        at j hj (no g) =
+            let q : j ≡ i = omega arith in
+            let le : i < length out = omega (arith, w .long) in
+            ap (λ (x : ℕ). getD (set out i v) x d) q ∙ getD-set-same out i v d le ∙ e ∙ sym (ap f q)
+
+    pub tabled-end : n ≤ i → out ≡ table n f
+    tabled-end h =
+        ext-getD d out (table n f) (w .long ∙ sym (length-table n f))
+        (λ j l. w .done j (omega (arith, w .long)) ∙ sym (getD-table n f j d (omega (arith, w .long))))

@@ -1,0 +1,5 @@
+-- What the other crates' definitions are made of: tables, iterates, a test of every element, four words and eight columns of them.
+pub mod Table
+pub mod Iterate
+pub mod Every
+pub mod Quad

@@ -1,0 +1,1 @@
+// No code: the definitions and laws that the other crates share (specs/ and proofs/).

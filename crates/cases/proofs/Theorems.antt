@@ -1,0 +1,21 @@
+-- The table of specs/Claims.antt. Assumes nothing.
+use mathlib.Core.Path.{refl}
+use Rattle.words.specs.Words.{shl, rotl}
+use Rattle.xoshiro.specs.Xoshiro256pp.{output, step}
+use Rattle.xoshiro_x8.specs.Calls.{movedBlocks}
+use Rattle.philox_x8.specs.Machine.{sought, holding, grouped, nextOf}
+use Rattle.cases.specs.Claims.{Cases}
+
+pub cases : Cases
+unfolding output step shl rotl sought holding grouped nextOf movedBlocks
+cases =
+    record {
+      first-output = refl;
+      second-output = refl;
+      after-first = refl;
+      wrapped-counter = λ g. refl;
+      wrapped-waits = λ g. refl;
+      mixed-counter = λ g. refl;
+      mixed-waits = λ g. refl;
+      wrapped-move = λ g. refl;
+    }

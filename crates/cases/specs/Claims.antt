@@ -1,0 +1,26 @@
+-- The scope document's worked cases, one table. It is proved in proofs/Theorems.antt.
+use mathlib.Core.Bool.{true, false}
+use mathlib.Core.Path.{_≡_}
+use Prim.Native.Nat.{_+_, _-_, _^_}
+use Rattle.xoshiro.specs.Xoshiro256pp.{State, output, step}
+use Rattle.xoshiro_x8.specs.Calls.{movedBlocks}
+use Rattle.xoshiro_x8.specs.declared.Xoshiro256ppX8.{Xoshiro256ppX8}
+use Rattle.philox_x8.specs.Machine.{sought, grouped, nextOf}
+use Rattle.philox_x8.specs.declared.Philox4x32X8.{Philox4x32X8}
+
+abbrev pub start : State
+start = record { w0 = 1; w1 = 2; w2 = 3; w3 = 4 }
+
+pub record Cases : Type 0 where
+  -- state (1, 2, 3, 4): two outputs, and the state after the first
+  pub first-output : output start ≡ 41943041
+  pub second-output : output (step start) ≡ 58720359
+  pub after-first : step start ≡ record { w0 = 7; w1 = 0; w2 = 262146; w3 = 211106232532992 }
+  -- Philox: seek 2 ^ 64 - 1, draw
+  pub wrapped-counter : (g : Philox4x32X8) → nextOf (sought g (2 ^ 64 - 1)) .counter ≡ 7
+  pub wrapped-waits : (g : Philox4x32X8) → nextOf (sought g (2 ^ 64 - 1)) .waiting ≡ true
+  -- Philox: seek 5, draw, blocks, draw
+  pub mixed-counter : (g : Philox4x32X8) → nextOf (grouped (nextOf (sought g 5)) .rng) .counter ≡ 21
+  pub mixed-waits : (g : Philox4x32X8) → nextOf (grouped (nextOf (sought g 5)) .rng) .waiting ≡ false
+  -- a move by 2 ^ 61 + 1 blocks: 8 jumps
+  pub wrapped-move : (g : Xoshiro256ppX8) → movedBlocks (2 ^ 61 + 1) g .jumps ≡ 8

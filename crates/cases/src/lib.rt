@@ -1,0 +1,1 @@
+// No code: worked cases, proved from the definitions (specs/Claims.antt).

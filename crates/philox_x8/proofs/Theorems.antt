@@ -1,0 +1,40 @@
+-- The claims of specs/Claims.antt. Assumes nothing.
+use mathlib.Core.List.{List}
+use mathlib.Core.Path.{_≡_, refl, ap, _∙_}
+use Prim.Native.Nat.{ℕ, _+_, _*_, _^_, _<_}
+use lib.ListN.{getD}
+use Rattle.base.specs.Table.{table}
+use Rattle.base.specs.Quad.{Quad}
+use Rattle.base.proofs.Table.{getD-table}
+use Rattle.philox.specs.Philox.{groupOf}
+use Rattle.philox_x8.specs.Machine.{blockAt, lowerAt, upperAt, sought, holding, grouped, drawn}
+use Rattle.philox_x8.specs.Claims.{DrawWaiting, DrawFresh, GroupCall, Seek}
+use Rattle.philox_x8.specs.declared.Philox4x32X8.{Philox4x32X8}
+use Rattle.philox_x8.proofs.Machine.{words-waiting, next-waiting, words-fresh, next-fresh}
+
+pub seek : Seek
+unfolding sought
+seek g n = record { same-key = refl; same-stream = refl; counter-is = refl; waits = refl }
+
+pub draw-waiting : DrawWaiting
+unfolding drawn
+draw-waiting g e l = (words-waiting g e l, rw (next-waiting g e) (seek g (g .counter)))
+
+pub draw-fresh : DrawFresh
+unfolding drawn holding lowerAt upperAt
+draw-fresh g e = (
+  (λ i h. ap (λ (l : List ℕ). getD l i 0) (words-fresh g e) ∙ getD-table 8 (λ j. blockAt g (g .counter + j) .w0 + 2 ^ 32 * blockAt g (g .counter + j) .w1) i 0 h),
+  (λ i h. ap (λ (x : Philox4x32X8). getD (x .pending) i 0) (next-fresh g e) ∙ getD-table 8 (λ j. blockAt g (g .counter + j) .w2 + 2 ^ 32 * blockAt g (g .counter + j) .w3) i 0 h),
+  rw (next-fresh g e) (record { same-key = refl; same-stream = refl; counter-is = refl; waits = refl }),
+)
+
+pub group-call : GroupCall
+unfolding grouped groupOf
+group-call g = (
+  (λ i h. (at (λ q. q .w0) i h, at (λ q. q .w1) i h, at (λ q. q .w2) i h, at (λ q. q .w3) i h)),
+  refl,
+  record { same-key = refl; same-stream = refl; counter-is = refl; waits = refl },
+)
+  where
+    at : (w : Quad → ℕ) (i : ℕ) → i < 8 → getD (table 8 (λ j. w (blockAt g (g .counter + j)))) i 0 ≡ w (blockAt g (g .counter + i))
+    at w i h = getD-table 8 (λ j. w (blockAt g (g .counter + j))) i 0 h

@@ -1,0 +1,15 @@
+-- `vectors::published_splitmix64` meets its contract.
+use Prim.Native.Nat.{_-_, _≤_}
+use native.Mathlib.Omega.{arith}
+use borrow.Author.Needs.{needs}
+use Rattle.vectors.proofs.published_splitmix64.Statement.{statement}
+use Rattle.vectors.proofs.published_splitmix64.Tie as tie
+
+abbrev Inv-loop : tie.InvT-loop
+Inv-loop rng₀ counter₀ rng counter = counter ≤ 10
+
+abbrev μ-loop : tie.MeasureT-loop
+μ-loop rng₀ counter₀ rng counter = 10 - counter
+
+pub published-splitmix64-spec : {M : Type 1} → statement M
+published-splitmix64-spec = tie.close (tie.spec Inv-loop μ-loop (λ c. search needs) (λ c κs. search needs) (λ c κs. search needs) (λ c. omega arith) (λ c κs. search needs) (λ c κs. search needs) (λ c. omega arith) (λ c. omega arith) (λ c. omega arith) (λ c. search needs))

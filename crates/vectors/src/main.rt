@@ -1,0 +1,215 @@
+// Writes what the engines hand out. The file `stdout` beside src/ holds what it must write: the published vectors, and the
+// answers of the Rust (tests/oracle says how they were made).
+use libc::STDOUT_FILENO;
+use philox_x8::Philox4x32X8;
+use splitmix64::SplitMix64;
+use xoshiro::Xoshiro256pp;
+use xoshiro_x8::Xoshiro256ppX8;
+
+fn title(text: &[u8]) {
+    io::write_all(STDOUT_FILENO, text);
+    io::write_all(STDOUT_FILENO, b"\n");
+}
+
+fn decimal(x: u64) {
+    io::print_decimal(STDOUT_FILENO, x);
+    io::write_all(STDOUT_FILENO, b"\n");
+}
+
+fn hex(x: u64) {
+    io::print_hex(STDOUT_FILENO, x, 16);
+    io::write_all(STDOUT_FILENO, b"\n");
+}
+
+fn hex_half(x: u32) {
+    io::print_hex(STDOUT_FILENO, x as u64, 8);
+    io::write_all(STDOUT_FILENO, b"\n");
+}
+
+fn words4(s: [u64; 4]) {
+    hex(s[0]);
+    hex(s[1]);
+    hex(s[2]);
+    hex(s[3]);
+}
+
+// Eight words as one, each in its place.
+fn folded(w: [u64; 8]) -> u64 {
+    let mut sum: u64 = 0;
+    for i in 0..8 {
+        sum = words::rotl(sum, 7) ^ w[i];
+    }
+    sum
+}
+
+fn folded_halves(lo: [u32; 8], hi: [u32; 8]) -> u64 {
+    let mut sum: u64 = 0;
+    for i in 0..8 {
+        sum = words::rotl(sum, 7) ^ words::join(lo[i], hi[i]);
+    }
+    sum
+}
+
+// ---- the published vectors
+fn published_splitmix64() {
+    title(b"SplitMix64 published");
+    let mut rng = SplitMix64::new(1477776061723855037);
+    for _ in 0u32..10 {
+        let d = rng.next_u64();
+        decimal(d.word);
+        let next = d.rng;
+        rng = next;
+    }
+}
+
+fn published_xoshiro() {
+    title(b"xoshiro256++ published");
+    let start = Xoshiro256pp::from_state([1, 2, 3, 4]);
+    let mut rng = start.rng;
+    for _ in 0u32..10 {
+        let d = rng.next_u64();
+        decimal(d.word);
+        let next = d.rng;
+        rng = next;
+    }
+}
+
+fn published_philox(counter: [u32; 4], key: [u32; 2]) {
+    let w = philox::philox4x32_10(counter, key);
+    hex_half(w[0]);
+    hex_half(w[1]);
+    hex_half(w[2]);
+    hex_half(w[3]);
+}
+
+fn published() {
+    published_splitmix64();
+    published_xoshiro();
+    title(b"Philox4x32-10 published");
+    published_philox([0; 4], [0; 2]);
+    published_philox([0xffff_ffff; 4], [0xffff_ffff; 2]);
+    published_philox(
+        [0x243f_6a88, 0x85a3_08d3, 0x1319_8a2e, 0x0370_7344],
+        [0xa409_3822, 0x299f_31d0],
+    );
+}
+
+// The refusal numbers of the scope document: a zero state, a lane past the last, a zero lane.
+fn refusals() {
+    title(b"Refusals");
+    let zero = Xoshiro256pp::from_state([0; 4]);
+    decimal(zero.refusal);
+    let built = Xoshiro256ppX8::from_seed(42);
+    let past = built.rng.lane(8);
+    decimal(past.refusal);
+    let seventh = built.rng.lane(7);
+    decimal(seventh.refusal);
+    let lane = seventh.rng;
+    let mut lanes = [lane; 8];
+    let accepted = Xoshiro256ppX8::from_lanes(lanes);
+    decimal(accepted.refusal);
+    let none = zero.rng;
+    lanes[7] = none;
+    let refused = Xoshiro256ppX8::from_lanes(lanes);
+    decimal(refused.refusal);
+}
+
+// ---- the Rust's answers
+// The states of a seed: as seeded, after three draws, after a jump and after a long jump.
+fn scalar(seed: u64) {
+    let mut rng = Xoshiro256pp::from_seed(seed);
+    words4(rng.state());
+    for _ in 0u32..3 {
+        let d = rng.next_u64();
+        hex(d.word);
+        let next = d.rng;
+        rng = next;
+    }
+    let jumped = rng.jump();
+    words4(jumped.state());
+    let long = jumped.long_jump();
+    words4(long.state());
+}
+
+// Draws of a generator, eight words each in one line.
+fn lane_draws(g: Xoshiro256ppX8, n: u32) -> Xoshiro256ppX8 {
+    let mut rng = g;
+    for _ in 0..n {
+        let d = rng.next_u64x8();
+        let w = d.words;
+        hex(folded(w));
+        let next = d.rng;
+        rng = next;
+    }
+    rng
+}
+
+// A block of a seed, moved by n blocks: draws before and after, then each lane's state.
+fn lanes(seed: u64, block: u64, n: u64) {
+    let built = Xoshiro256ppX8::from_seed_block(seed, block);
+    let drawn = lane_draws(built.rng, 3);
+    let moved = drawn.jump_blocks(n);
+    let rng = lane_draws(moved.rng, 2);
+    for i in 0..8 {
+        let lane = rng.lane(i).rng;
+        words4(lane.state());
+    }
+}
+
+// Draws, group calls and seeks in an order that SplitMix64 picks; a seek is near 2^64 half of the time.
+fn machine(seed: u64, stream: u64, calls: u32) {
+    let mut rng = Philox4x32X8::new(seed, stream);
+    let mut order = SplitMix64::new(seed);
+    for _ in 0..calls {
+        let d = order.next_u64();
+        let pick = d.word;
+        let next = d.rng;
+        order = next;
+        let after = event(rng, pick);
+        rng = after;
+        decimal(rng.draws_left());
+    }
+}
+
+fn event(rng: Philox4x32X8, pick: u64) -> Philox4x32X8 {
+    if pick % 8 == 0 {
+        return rng.seek(pick >> 3);
+    }
+    if pick % 8 == 1 {
+        return rng.seek(u64::MAX - (pick >> 60));
+    }
+    if pick % 8 == 2 {
+        let b = rng.blocks();
+        let w0 = b.w0;
+        let w1 = b.w1;
+        let w2 = b.w2;
+        let w3 = b.w3;
+        hex(folded_halves(w0, w1));
+        hex(folded_halves(w2, w3));
+        return b.rng;
+    }
+    let d = rng.next_u64x8();
+    let w = d.words;
+    hex(folded(w));
+    d.rng
+}
+
+fn main() {
+    published();
+    refusals();
+    title(b"Xoshiro256pp");
+    scalar(0);
+    scalar(1);
+    scalar(42);
+    scalar(0x9e37_79b9_7f4a_7c15);
+    scalar(0xffff_ffff_ffff_ffff);
+    title(b"Xoshiro256ppX8");
+    lanes(42, 0, 0);
+    lanes(42, 1, 1);
+    lanes(7, 100, 13);
+    lanes(7, 0x2000_0000_0000_0003, 0x2000_0000_0000_0001);
+    title(b"Philox4x32X8");
+    machine(42, 0, 200);
+    machine(0x0123_4567_89ab_cdef, 7, 200);
+    machine(0xffff_ffff_ffff_ffff, 0xffff_ffff_ffff_ffff, 200);
+}

@@ -1,0 +1,4 @@
+pub mod Linear
+pub mod Jumping
+pub mod Seeding
+pub mod Theorems

@@ -1,0 +1,3 @@
+pub mod Lanes
+pub mod Calls
+pub mod Claims

@@ -1,0 +1,90 @@
+//! Writes the Rust's answers for the calls that crates/vectors makes, in the same order and layout.
+use tpt_simd_rng::{Philox4x32X8, Rng8, SplitMix64, Xoshiro256pp, Xoshiro256ppX8};
+
+fn words4(s: [u64; 4]) {
+    for w in s {
+        println!("{w:016x}");
+    }
+}
+
+fn folded(w: [u64; 8]) -> u64 {
+    w.iter().fold(0u64, |sum, x| sum.rotate_left(7) ^ x)
+}
+
+fn scalar(seed: u64) {
+    let mut rng = Xoshiro256pp::from_seed(seed);
+    words4(rng.state());
+    for _ in 0..3 {
+        println!("{:016x}", rng.next_u64());
+    }
+    rng.jump();
+    words4(rng.state());
+    rng.long_jump();
+    words4(rng.state());
+}
+
+fn lane_draws(rng: &mut Xoshiro256ppX8, n: u32) {
+    for _ in 0..n {
+        println!("{:016x}", folded(rng.next_u64x8()));
+    }
+}
+
+fn lanes(seed: u64, block: u64, n: u64) {
+    let mut rng = Xoshiro256ppX8::from_seed_block(seed, block);
+    lane_draws(&mut rng, 3);
+    rng.jump_blocks(n);
+    lane_draws(&mut rng, 2);
+    for i in 0..8 {
+        words4(rng.lane(i).state());
+    }
+}
+
+/// The Rust has no `draws_left` and shows no counter: the counter is kept beside it, as document 01's machine has it.
+fn machine(seed: u64, stream: u64, calls: u32) {
+    let mut rng = Philox4x32X8::new(seed, stream);
+    let mut order = SplitMix64::new(seed);
+    let mut counter = 0u64;
+    let mut waiting = false;
+    for _ in 0..calls {
+        let pick = order.next_u64();
+        match pick % 8 {
+            0 | 1 => {
+                counter = if pick % 8 == 0 { pick >> 3 } else { u64::MAX - (pick >> 60) };
+                rng.seek(counter);
+                waiting = false;
+            }
+            2 => {
+                let [w0, w1, w2, w3] = rng.blocks();
+                for (lo, hi) in [(w0, w1), (w2, w3)] {
+                    let joined = core::array::from_fn(|i| u64::from(lo[i]) | u64::from(hi[i]) << 32);
+                    println!("{:016x}", folded(joined));
+                }
+                counter = counter.wrapping_add(8);
+            }
+            _ => {
+                println!("{:016x}", folded(rng.next_u64x8()));
+                if !waiting {
+                    counter = counter.wrapping_add(8);
+                }
+                waiting = !waiting;
+            }
+        }
+        println!("{}", 2 * (((1u128 << 64) - u128::from(counter)) / 8));
+    }
+}
+
+fn main() {
+    println!("Xoshiro256pp");
+    for seed in [0, 1, 42, 0x9e37_79b9_7f4a_7c15, u64::MAX] {
+        scalar(seed);
+    }
+    println!("Xoshiro256ppX8");
+    lanes(42, 0, 0);
+    lanes(42, 1, 1);
+    lanes(7, 100, 13);
+    lanes(7, 0x2000_0000_0000_0003, 0x2000_0000_0000_0001);
+    println!("Philox4x32X8");
+    machine(42, 0, 200);
+    machine(0x0123_4567_89ab_cdef, 7, 200);
+    machine(u64::MAX, u64::MAX, 200);
+}
