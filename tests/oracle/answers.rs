@@ -39,7 +39,7 @@ fn lanes(seed: u64, block: u64, n: u64) {
     }
 }
 
-/// The Rust has no `draws_left` and shows no counter: the counter is kept beside it, as document 01's machine has it.
+/// The Rust has no `draws_left` and shows no counter: the counter is kept beside it, as the scope document's machine has it.
 fn machine(seed: u64, stream: u64, calls: u32) {
     let mut rng = Philox4x32X8::new(seed, stream);
     let mut order = SplitMix64::new(seed);
