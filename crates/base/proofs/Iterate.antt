@@ -6,10 +6,6 @@ use native.Mathlib.Numerals.{add-one}
 use Rattle.base.specs.Iterate.{iterate}
 
 module _ {A : Type 0} (f : A → A) where
-  pub iterate-none : (x : A) → iterate f 0 x ≡ x
-  unfolding iterate
-  iterate-none x = refl
-
   -- one more, as a loop counts
   pub iterate-more : (n : ℕ) (x : A) → iterate f (n + 1) x ≡ f (iterate f n x)
   unfolding iterate
