@@ -1,5 +1,5 @@
-// Writes what the engines hand out. The file `stdout` beside src/ holds what it must write: the published vectors, and the
-// answers of the Rust (tests/oracle says how they were made).
+// Writes what the engines hand out. The file `stdout` beside src/ holds what it must write: the published vectors, the scope
+// document's refusal numbers, and the answers of the Rust (tests/oracle says how they were made).
 use libc::STDOUT_FILENO;
 use philox_x8::Philox4x32X8;
 use splitmix64::SplitMix64;
