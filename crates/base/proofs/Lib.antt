@@ -4,3 +4,4 @@ pub mod Iterate
 pub mod Every
 pub mod Quad
 pub mod Xor
+pub mod Zip

@@ -3,3 +3,4 @@ pub mod Table
 pub mod Iterate
 pub mod Every
 pub mod Quad
+pub mod Zip

@@ -1,5 +1,7 @@
 -- The table of specs/Claims.antt. Assumes nothing.
 use mathlib.Core.Path.{refl}
+use lib.Ieee.{round}
+use Rattle.units.specs.Unit.{dyadic, unit}
 use Rattle.words.specs.Words.{shl, rotl}
 use Rattle.xoshiro.specs.Xoshiro256pp.{output, step}
 use Rattle.xoshiro_x8.specs.Calls.{movedBlocks}
@@ -7,12 +9,17 @@ use Rattle.philox_x8.specs.Machine.{sought, holding, grouped, nextOf}
 use Rattle.cases.specs.Claims.{Cases}
 
 pub cases : Cases
-unfolding output step shl rotl sought holding grouped nextOf movedBlocks
+unfolding unit dyadic round output step shl rotl sought holding grouped nextOf movedBlocks
 cases =
     record {
       first-output = refl;
       second-output = refl;
       after-first = refl;
+      unit32-255 = refl;
+      unit32-256 = refl;
+      unit32-last = refl;
+      unit64-4095 = refl;
+      unit64-4096 = refl;
       wrapped-counter = λ g. refl;
       wrapped-waits = λ g. refl;
       mixed-counter = λ g. refl;

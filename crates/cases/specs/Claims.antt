@@ -2,6 +2,10 @@
 use mathlib.Core.Bool.{true, false}
 use mathlib.Core.Path.{_≡_}
 use Prim.Native.Nat.{_+_, _-_, _^_}
+use lib.IntN.{negsuc}
+use lib.Ieee.{binary32, binary64, fin}
+use Rattle.floats.specs.Numbers.{zero}
+use Rattle.units.specs.Unit.{unit}
 use Rattle.xoshiro.specs.Xoshiro256pp.{State, output, step}
 use Rattle.xoshiro_x8.specs.Calls.{movedBlocks}
 use Rattle.xoshiro_x8.specs.declared.Xoshiro256ppX8.{Xoshiro256ppX8}
@@ -16,6 +20,13 @@ pub record Cases : Type 0 where
   pub first-output : output start ≡ 41943041
   pub second-output : output (step start) ≡ 58720359
   pub after-first : step start ≡ record { w0 = 7; w1 = 0; w2 = 262146; w3 = 211106232532992 }
+  -- unit f32 of 255: 0; of 256: 2 ^ -24; of 2 ^ 32 - 1: (2 ^ 24 - 1) / 2 ^ 24 (`fin false m (negsuc k)` is m / 2 ^ (k + 1))
+  pub unit32-255 : unit binary32 255 ≡ zero
+  pub unit32-256 : unit binary32 256 ≡ fin false 1 (negsuc 23)
+  pub unit32-last : unit binary32 (2 ^ 32 - 1) ≡ fin false (2 ^ 24 - 1) (negsuc 23)
+  -- unit f64 of 4095: 0; of 4096: 2 ^ -52
+  pub unit64-4095 : unit binary64 4095 ≡ zero
+  pub unit64-4096 : unit binary64 4096 ≡ fin false 1 (negsuc 51)
   -- Philox: seek 2 ^ 64 - 1, draw
   pub wrapped-counter : (g : Philox4x32X8) → nextOf (sought g (2 ^ 64 - 1)) .counter ≡ 7
   pub wrapped-waits : (g : Philox4x32X8) → nextOf (sought g (2 ^ 64 - 1)) .waiting ≡ true

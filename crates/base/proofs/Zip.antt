@@ -1,0 +1,35 @@
+-- Lists made element by element from one list or from two: as tables, and one made from another. Assumes nothing.
+use mathlib.Core.List.{List, [], _∷_, map}
+use mathlib.Core.Path.{_≡_, refl, sym, ap, _∙_}
+use Prim.Native.Nat.{ℕ, zero, suc}
+use native.Mathlib.Omega.{arith}
+use lib.ListN.{length, getD}
+use Rattle.base.specs.Table.{table}
+use Rattle.base.specs.Zip.{zipWith}
+
+module _ {A B : Type 0} (g : A → B) (d : A) where
+  whole : (xs : List A) → table (length xs) (λ i. g (getD xs i d)) ≡ map g xs
+  unfolding table
+  whole [] = refl
+  whole (x ∷ xs) = ap (λ (l : List B). g x ∷ l) (whole xs)
+
+  pub table-map : (n : ℕ) (xs : List A) → length xs ≡ n → table n (λ i. g (getD xs i d)) ≡ map g xs
+  table-map n xs e = ap (λ (m : ℕ). table m (λ i. g (getD xs i d))) (sym e) ∙ whole xs
+
+module _ {A B C : Type 0} (g : A → B → C) (d : A) (e : B) where
+  pub table-zip : (n : ℕ) (xs : List A) (ys : List B) → length xs ≡ n → length ys ≡ n → table n (λ i. g (getD xs i d) (getD ys i e)) ≡ zipWith g xs ys
+  unfolding table
+  table-zip zero [] ys p q = refl
+  table-zip zero (x ∷ xs) ys p q = absurd (omega arith)
+  table-zip (suc n) [] ys p q = absurd (omega arith)
+  table-zip (suc n) (x ∷ xs) [] p q = absurd (omega arith)
+  table-zip (suc n) (x ∷ xs) (y ∷ ys) p q = ap (λ (l : List C). g x y ∷ l) (table-zip n xs ys (omega arith) (omega arith))
+
+pub map-map : {A B C : Type 0} (g : B → C) (f : A → B) (xs : List A) → map g (map f xs) ≡ map (λ x. g (f x)) xs
+map-map g f [] = refl
+map-map {C = C} g f (x ∷ xs) = ap (λ (l : List C). g (f x) ∷ l) (map-map g f xs)
+
+pub zip-maps : {A B C D E : Type 0} (g : C → D → E) (a : A → C) (b : B → D) (xs : List A) (ys : List B) → zipWith g (map a xs) (map b ys) ≡ zipWith (λ x y. g (a x) (b y)) xs ys
+zip-maps g a b [] ys = refl
+zip-maps g a b (x ∷ xs) [] = refl
+zip-maps {E = E} g a b (x ∷ xs) (y ∷ ys) = ap (λ (l : List E). g (a x) (b y) ∷ l) (zip-maps g a b xs ys)

@@ -1,0 +1,2 @@
+-- What the tests of the casts tell.
+pub mod Nan

@@ -1,0 +1,12 @@
+-- The cosine and the sine of one turn, and of eight, as the declared records.
+use mathlib.Core.List.{List, map}
+use lib.Ieee.{Float, binary64}
+use Rattle.math.specs.Turns.{sinTurns, cosTurns}
+use Rattle.math_sincos_turns_f64.specs.declared.CosSin.{CosSin}
+use Rattle.math_sincos_turns_f64.specs.declared.CosSinLane.{CosSinLane}
+
+unfoldable pub laneOf : Float → CosSinLane
+laneOf t = record { cos = cosTurns binary64 t; sin = sinTurns binary64 t }
+
+unfoldable pub lanesOf : List Float → CosSin
+lanesOf t = record { cos = map (cosTurns binary64) t; sin = map (sinTurns binary64) t }
