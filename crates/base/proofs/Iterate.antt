@@ -1,7 +1,7 @@
 -- Laws of iterates. Assumes nothing.
 use mathlib.Core.Path.{_≡_, refl, sym, ap, _∙_}
 use Prim.Native.Nat.{ℕ, zero, suc, _+_}
-use native.Mathlib.Nat.{zero-add, suc-add}
+use native.Mathlib.Nat.{zero-add, suc-add, add-comm}
 use native.Mathlib.Numerals.{add-one}
 use Rattle.base.specs.Iterate.{iterate}
 
@@ -15,6 +15,9 @@ module _ {A : Type 0} (f : A → A) where
   unfolding iterate
   iterate-add zero n x = ap (λ (k : ℕ). iterate f k x) (zero-add n)
   iterate-add (suc m) n x = ap (λ (k : ℕ). iterate f k x) (suc-add m n) ∙ ap f (iterate-add m n x)
+
+  pub iterate-then : (m n : ℕ) (x : A) → iterate f (m + n) x ≡ iterate f n (iterate f m x)
+  iterate-then m n x = ap (λ (k : ℕ). iterate f k x) (add-comm m n) ∙ iterate-add n m x
 
 -- what commutes with f commutes with its iterates
 pub iterate-past : {A : Type 0} (f g : A → A) → ((x : A) → g (f x) ≡ f (g x)) → (n : ℕ) (x : A) → g (iterate f n x) ≡ iterate f n (g x)

@@ -1,5 +1,5 @@
 -- Lists made element by element from one list or from two: as tables, and one made from another. Assumes nothing.
-use mathlib.Core.List.{List, [], _∷_, map}
+use mathlib.Core.List.{List, [], _∷_, _++_, map}
 use mathlib.Core.Path.{_≡_, refl, sym, ap, _∙_}
 use Prim.Native.Nat.{ℕ, zero, suc}
 use native.Mathlib.Omega.{arith}
@@ -33,3 +33,7 @@ pub zip-maps : {A B C D E : Type 0} (g : C → D → E) (a : A → C) (b : B →
 zip-maps g a b [] ys = refl
 zip-maps g a b (x ∷ xs) [] = refl
 zip-maps {E = E} g a b (x ∷ xs) (y ∷ ys) = ap (λ (l : List E). g (a x) (b y) ∷ l) (zip-maps g a b xs ys)
+
+pub map-append : {A B : Type 0} (f : A → B) (xs ys : List A) → map f (xs ++ ys) ≡ map f xs ++ map f ys
+map-append f [] ys = refl
+map-append {B = B} f (x ∷ xs) ys = ap (λ (l : List B). f x ∷ l) (map-append f xs ys)

@@ -1,6 +1,9 @@
--- What the other crates' definitions are made of: tables, iterates, a test of every element, four words and eight columns of them.
+-- What the other crates' definitions are made of: tables, iterates, a test of every element, four words and eight columns of them,
+-- stores into a list, little-endian bytes.
 pub mod Table
 pub mod Iterate
 pub mod Every
 pub mod Quad
 pub mod Zip
+pub mod Stored
+pub mod Bytes

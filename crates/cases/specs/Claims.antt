@@ -6,6 +6,8 @@ use lib.IntN.{negsuc}
 use lib.Ieee.{binary32, binary64, fin}
 use Rattle.floats.specs.Numbers.{zero}
 use Rattle.units.specs.Unit.{unit}
+use Rattle.fills.specs.Fill.{drawsFor}
+use Rattle.fills.specs.Kinds.{f64s, normalF64s}
 use Rattle.xoshiro.specs.Xoshiro256pp.{State, output, step}
 use Rattle.xoshiro_x8.specs.Calls.{movedBlocks}
 use Rattle.xoshiro_x8.specs.declared.Xoshiro256ppX8.{Xoshiro256ppX8}
@@ -27,6 +29,12 @@ pub record Cases : Type 0 where
   -- unit f64 of 4095: 0; of 4096: 2 ^ -52
   pub unit64-4095 : unit binary64 4095 ≡ zero
   pub unit64-4096 : unit binary64 4096 ≡ fin false 1 (negsuc 51)
+  -- draws: kind 4, n = 0, 8, 9: 0, 1, 2; kind 6, n = 16, 17: 2, 4
+  pub draws-4-0 : drawsFor f64s 0 ≡ 0
+  pub draws-4-8 : drawsFor f64s 8 ≡ 1
+  pub draws-4-9 : drawsFor f64s 9 ≡ 2
+  pub draws-6-16 : drawsFor normalF64s 16 ≡ 2
+  pub draws-6-17 : drawsFor normalF64s 17 ≡ 4
   -- Philox: seek 2 ^ 64 - 1, draw
   pub wrapped-counter : (g : Philox4x32X8) → nextOf (sought g (2 ^ 64 - 1)) .counter ≡ 7
   pub wrapped-waits : (g : Philox4x32X8) → nextOf (sought g (2 ^ 64 - 1)) .waiting ≡ true

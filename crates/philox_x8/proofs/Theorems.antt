@@ -1,14 +1,15 @@
 -- The claims of specs/Claims.antt. Assumes nothing.
+use mathlib.Core.Bool.{Bool, true, false, cond}
 use mathlib.Core.List.{List}
 use mathlib.Core.Path.{_≡_, refl, ap, _∙_}
 use Prim.Native.Nat.{ℕ, _+_, _*_, _^_, _<_}
-use lib.ListN.{getD}
+use lib.ListN.{getD, length}
 use Rattle.base.specs.Table.{table}
 use Rattle.base.specs.Quad.{Quad}
 use Rattle.base.proofs.Table.{getD-table}
 use Rattle.philox.specs.Philox.{groupOf}
-use Rattle.philox_x8.specs.Machine.{blockAt, lowerAt, upperAt, sought, holding, grouped, drawn}
-use Rattle.philox_x8.specs.Claims.{DrawWaiting, DrawFresh, GroupCall, Seek}
+use Rattle.philox_x8.specs.Machine.{blockAt, lowerAt, upperAt, sought, holding, grouped, wordsOf, drawn}
+use Rattle.philox_x8.specs.Claims.{DrawWaiting, DrawFresh, GroupCall, Seek, EightWords}
 use Rattle.philox_x8.specs.declared.Philox4x32X8.{Philox4x32X8}
 use Rattle.philox_x8.proofs.Machine.{words-waiting, next-waiting, words-fresh, next-fresh}
 
@@ -38,3 +39,11 @@ group-call g = (
   where
     at : (w : Quad → ℕ) (i : ℕ) → i < 8 → getD (table 8 (λ j. w (blockAt g (g .counter + j)))) i 0 ≡ w (blockAt g (g .counter + i))
     at w i h = getD-table 8 (λ j. w (blockAt g (g .counter + j))) i 0 h
+
+pub eight-words : EightWords
+unfolding wordsOf lowerAt table
+eight-words g = go (g .waiting)
+  where
+    go : (b : Bool) → length (cond b (table 8 (λ i. getD (g .pending) i 0)) (lowerAt g (g .counter))) ≡ 8
+    go true = refl
+    go false = refl

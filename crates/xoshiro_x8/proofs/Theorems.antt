@@ -6,6 +6,7 @@ use Prim.Native.Nat.{ℕ, _<_}
 use native.Mathlib.Omega.{arith}
 use lib.ListN.{getD}
 use Rattle.base.specs.Iterate.{iterate}
+use Rattle.base.specs.Table.{table}
 use Rattle.base.specs.Every.{every}
 use Rattle.base.specs.Quad.{column, rowsOf}
 use Rattle.base.proofs.Table.{table-getD}
@@ -13,10 +14,11 @@ use Rattle.base.proofs.Quad.{column-rowsOf, list-four}
 use Rattle.xoshiro.specs.Xoshiro256pp.{State, jumps}
 use Rattle.xoshiro.specs.Calls.{stateOf, generator, accepted}
 use Rattle.xoshiro.specs.declared.Xoshiro256pp.{Xoshiro256pp}
+use Rattle.xoshiro_rows.specs.Lanes.{outputs}
 use Rattle.xoshiro_rows.proofs.Theorems.{lanes-step as rows-step}
 use Rattle.xoshiro_x8.specs.Lanes.{rowsIn, laneOf, ofStates}
 use Rattle.xoshiro_x8.specs.Calls.{wordsOf, nextOf, drawn, placed, movedBlocks, isValid, ofLanes, fromLanes, blank8, noLane}
-use Rattle.xoshiro_x8.specs.Claims.{LanesStep, LanesStart, LanesMove, NothingMoves, LanesBack}
+use Rattle.xoshiro_x8.specs.Claims.{LanesStep, LanesStart, LanesMove, NothingMoves, LanesBack, EightWords}
 use Rattle.xoshiro_x8.specs.declared.Xoshiro256ppX8.{Xoshiro256ppX8}
 use Rattle.xoshiro_x8.specs.declared.LanesAnswer.{LanesAnswer}
 use Rattle.xoshiro_x8.proofs.Lanes.{lane-accepted}
@@ -66,3 +68,7 @@ lanes-back lanes i h four ok =
     ∙ ap (λ (g : Xoshiro256ppX8). accepted (generator (laneOf g i))) (answered (every isValid lanes) lanes ok)
     ∙ ap (λ (s : State). accepted (generator s)) (lane-of-states (λ j. stateOf (getD lanes j noLane)) i h)
     ∙ ap (λ (l : List ℕ). accepted (record { s = l })) (list-four 0 (getD lanes i noLane .s) four)
+
+pub eight-words : EightWords
+unfolding wordsOf outputs table
+eight-words g = refl

@@ -7,7 +7,7 @@ use Rattle.xoshiro.specs.Xoshiro256pp.{output, step, jumps, seeded}
 use Rattle.xoshiro.specs.Calls.{accepted}
 use Rattle.xoshiro.specs.declared.Xoshiro256pp.{Xoshiro256pp}
 use Rattle.xoshiro_x8.specs.Lanes.{laneOf}
-use Rattle.xoshiro_x8.specs.Calls.{drawn, placed, movedBlocks, fromLanes, laneCall, noLane}
+use Rattle.xoshiro_x8.specs.Calls.{wordsOf, drawn, placed, movedBlocks, fromLanes, laneCall, noLane}
 use Rattle.xoshiro_x8.specs.declared.Xoshiro256ppX8.{Xoshiro256ppX8}
 
 -- lane i of a draw's generator is a step of lane i, and word i is that lane's output
@@ -37,3 +37,7 @@ NothingMoves = (g : Xoshiro256ppX8) → Eights g → movedBlocks (2 ^ 61) g ≡ 
 abbrev pub LanesBack : Type 0
 LanesBack = (lanes : List Xoshiro256pp) (i : ℕ) → i < 8 → length (getD lanes i noLane .s) ≡ 4 → fromLanes lanes .refusal ≡ 0
     → laneCall (fromLanes lanes .rng) i ≡ accepted (getD lanes i noLane)
+
+-- a draw has eight words, on every record
+abbrev pub EightWords : Type 0
+EightWords = (g : Xoshiro256ppX8) → length (wordsOf g) ≡ 8

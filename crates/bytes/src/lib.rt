@@ -1,0 +1,64 @@
+// Words as little-endian bytes, stored in a slice.
+ghost use mathlib.Core.Path.{_≡_};
+ghost use Prim.Native.Nat.{_+_, _-_, _<_, min};
+ghost use lib.ListN.{length};
+ghost use Rattle.base.specs.Bytes.{leBytes, flat};
+ghost use Rattle.base.specs.Stored.{stored};
+
+// The bytes of a word.
+pub fn le8(x: u64) -> [u8; 8]
+    ensures { λ r. ⌜ r ≡ leBytes 8 x ⌝ }
+{
+    let x1 = x / 256;
+    let x2 = x1 / 256;
+    let x3 = x2 / 256;
+    let x4 = x3 / 256;
+    let x5 = x4 / 256;
+    let x6 = x5 / 256;
+    let x7 = x6 / 256;
+    [
+        (x % 256) as u8,
+        (x1 % 256) as u8,
+        (x2 % 256) as u8,
+        (x3 % 256) as u8,
+        (x4 % 256) as u8,
+        (x5 % 256) as u8,
+        (x6 % 256) as u8,
+        (x7 % 256) as u8,
+    ]
+}
+
+// Stores the first `n` of `v` in the places from `at` on.
+fn put8_n(out: &mut [u8], at: usize, v: [u8; 8], n: usize)
+    requires { ⌜ n ≡ min (length (now out) - at) 8 ⌝ }
+    ensures { λ _. ⌜ now (out .exit) ≡ stored (now (out .entry)) at v ⌝ }
+{
+    for i in 0..n {
+        out[at + i] = v[i];
+    }
+}
+
+// Stores `v` in the places from `at` on, as far as `out` has them.
+fn put8(out: &mut [u8], at: usize, v: [u8; 8])
+    ensures { λ _. ⌜ now (out .exit) ≡ stored (now (out .entry)) at v ⌝ }
+{
+    let n = groups::room(out.len(), at, 8);
+    // eight stores that the compiler knows to be eight become one
+    if n == 8 {
+        put8_n(out, at, v, 8);
+    } else {
+        put8_n(out, at, v, n);
+    }
+}
+
+// Stores the bytes of eight words from place `at` on, as far as `out` has places.
+pub fn put_words(out: &mut [u8], at: usize, v: [u64; 8])
+    ensures { λ _. ⌜ now (out .exit) ≡ stored (now (out .entry)) at (flat (leBytes 8) v) ⌝ }
+{
+    if out.len() <= at {
+        return;
+    }
+    for i in 0..8 {
+        put8(out, at + i * 8, le8(v[i]));
+    }
+}

@@ -1,0 +1,183 @@
+-- The claims of specs/Claims.antt. Assumes nothing.
+use mathlib.Core.Bool.{Bool, true, false, cond, _&&_}
+use mathlib.Core.List.{List, [], _∷_, _++_, map}
+use mathlib.Core.Path.{_≡_, refl, sym, ap, ap₂, _∙_}
+use Prim.Native.Nat.{ℕ, zero, suc, _+_, _*_, _/_, _%_, _^_, _<_, _≤_}
+use native.Mathlib.Nat.{not-suc-le-zero, le-of-suc-le-suc, div-eq-of-eq-mul-left}
+use native.Mathlib.Omega.{arith}
+use borrow.Author.Tests.{leb-true, eqb-true, le-leb, lt-leb, eq-eqb, ne-eqb}
+use lib.Dec.{leb, eqb}
+use lib.Ieee.{Float, Format, binary32, binary64}
+use lib.ListN.{length, getD, length-map, List·getD-append}
+use lib.Seq.{getD-append-add}
+use Rattle.base.specs.Bytes.{flat}
+use Rattle.base.specs.Iterate.{iterate}
+use Rattle.base.specs.Table.{table}
+use Rattle.base.specs.Zip.{zipWith}
+use Rattle.floats.specs.Numbers as numbers
+use Rattle.units.specs.Unit.{unit, oneMinusUnit}
+use Rattle.math.specs.BoxMuller.{cosHalf, sinHalf}
+use Rattle.fills.specs.Fill.{drawsFor, element}
+use Rattle.fills.specs.Kinds.{lows, highs, u32s, normalsOf, kindAt}
+use Rattle.fills.specs.FillBytes.{bytesOf, refusalOf, elements, bytesWritten, bytesDraws}
+use Rattle.fills.specs.Claims.{Row1, Row2, Row3, Row4, Row5, Row6, DrawsAndWidths, Refusals, BytesOfTheFill}
+use Rattle.fills.proofs.Sounds.{halves-long, length-zip, row}
+
+-- ---- elements of lists made element by element
+getD-map : {A B : Type 0} (f : A → B) (xs : List A) (i : ℕ) (d : A) (e : B) → i < length xs → getD (map f xs) i e ≡ f (getD xs i d)
+getD-map f [] i d e h = absurd (not-suc-le-zero h)
+getD-map f (x ∷ xs) zero d e h = refl
+getD-map f (x ∷ xs) (suc i) d e h = getD-map f xs i d e (le-of-suc-le-suc h)
+
+getD-zip : {A B C : Type 0} (f : A → B → C) (xs : List A) (ys : List B) (i : ℕ) (a : A) (b : B) (c : C) → i < length xs → i < length ys → getD (zipWith f xs ys) i c ≡ f (getD xs i a) (getD ys i b)
+getD-zip f [] ys i a b c h k = absurd (not-suc-le-zero h)
+getD-zip f (x ∷ xs) [] i a b c h k = absurd (not-suc-le-zero k)
+getD-zip f (x ∷ xs) (y ∷ ys) zero a b c h k = refl
+getD-zip f (x ∷ xs) (y ∷ ys) (suc i) a b c h k = getD-zip f xs ys i a b c (le-of-suc-le-suc h) (le-of-suc-le-suc k)
+
+-- place r of two halves of eight
+module _ {A : Type 0} (xs ys : List A) (h : length xs ≡ 8) (r : ℕ) (d : A) where
+  first-half : r < 8 → getD (xs ++ ys) r d ≡ getD xs (r % 8) d
+  first-half l = List·getD-append xs ys d r (omega (arith, h)) ∙ ap (λ (i : ℕ). getD xs i d) (omega arith)
+
+  second-half : 8 ≤ r → r < 16 → getD (xs ++ ys) r d ≡ getD ys (r % 8) d
+  second-half g l =
+      let e : r ≡ length xs + r % 8 = omega (arith, h) in
+      ap (λ (i : ℕ). getD (xs ++ ys) i d) e ∙ getD-append-add xs ys (r % 8) d
+
+-- ---- the rows
+one-draw : (words : ℕ → List ℕ) (q : ℕ) → words (1 * q + 0) ≡ words q
+one-draw words q = ap words (omega arith)
+
+pub row-1 : Row1
+row-1 words h k = ap (λ (w : List ℕ). getD w (k % 8) 0) (one-draw words (k / 8))
+
+module _ (w : List ℕ) (h : length w ≡ 8) (i : ℕ) (l : i < 8) where
+  low-at : getD (lows w) i 0 ≡ getD w i 0 % 2 ^ 32
+  low-at = getD-map (λ x. x % 2 ^ 32) w i 0 0 (omega (arith, h))
+
+  high-at : getD (highs w) i 0 ≡ getD w i 0 / 2 ^ 32
+  high-at = getD-map (λ x. x / 2 ^ 32) w i 0 0 (omega (arith, h))
+
+length-lows : (w : List ℕ) → length w ≡ 8 → length (lows w) ≡ 8
+length-lows w h = length-map w (λ x. x % 2 ^ 32) ∙ h
+
+length-highs : (w : List ℕ) → length w ≡ 8 → length (highs w) ≡ 8
+length-highs w h = length-map w (λ x. x / 2 ^ 32) ∙ h
+
+pub row-2 : Row2
+row-2 words h k =
+    let q : ℕ = k / 16 in
+    let w : List ℕ = words q in
+    let start : element u32s words k ≡ getD (lows w ++ highs w) (k % 16) 0 = ap (λ (x : List ℕ). getD (lows x ++ highs x) (k % 16) 0) (one-draw words q) in (
+      (λ l. start ∙ first-half (lows w) (highs w) (length-lows w (h q)) (k % 16) 0 l ∙ low-at w (h q) (k % 16 % 8) (omega arith) ∙ ap (λ (i : ℕ). getD w i 0 % 2 ^ 32) (omega arith)),
+      (λ l. start ∙ second-half (lows w) (highs w) (length-lows w (h q)) (k % 16) 0 l (omega arith) ∙ high-at w (h q) (k % 16 % 8) (omega arith) ∙ ap (λ (i : ℕ). getD w i 0 / 2 ^ 32) (omega arith)),
+    )
+
+pub row-3 : Row3
+row-3 words h k =
+    let w : List ℕ = words (1 * (k / 16) + 0) in
+    getD-map (unit binary32) (lows w ++ highs w) (k % 16) 0 _ (omega (arith, halves-long w (h (1 * (k / 16) + 0))))
+
+pub row-4 : Row4
+row-4 words h k = getD-map (unit binary64) (words (1 * (k / 8) + 0)) (k % 8) 0 _ (omega (arith, h (1 * (k / 8) + 0)))
+
+-- the halves of Box-Muller, from words a and b
+module _ (f : Format) (a b : List ℕ) (ha : length a ≡ 8) (hb : length b ≡ 8) (r : ℕ) (d : Float) where
+  abbrev u1 : List Float
+  u1 = map (oneMinusUnit f) a
+
+  abbrev u2 : List Float
+  u2 = map (unit f) b
+
+  long1 : length u1 ≡ 8
+  long1 = length-map a (oneMinusUnit f) ∙ ha
+
+  long2 : length u2 ≡ 8
+  long2 = length-map b (unit f) ∙ hb
+
+  half-at : (half : Float → Float → Float) (i : ℕ) → i < 8 → getD (zipWith half u1 u2) i d ≡ half (oneMinusUnit f (getD a i 0)) (unit f (getD b i 0))
+  half-at half i l =
+      getD-zip half u1 u2 i d d d (omega (arith, long1)) (omega (arith, long2))
+      ∙ ap₂ half (getD-map (oneMinusUnit f) a i 0 d (omega (arith, ha))) (getD-map (unit f) b i 0 d (omega (arith, hb)))
+
+  normals-at : (r < 8 → getD (normalsOf f a b) r d ≡ cosHalf f (oneMinusUnit f (getD a (r % 8) 0)) (unit f (getD b (r % 8) 0)))
+      × (8 ≤ r → r < 16 → getD (normalsOf f a b) r d ≡ sinHalf f (oneMinusUnit f (getD a (r % 8) 0)) (unit f (getD b (r % 8) 0)))
+  normals-at =
+      let long : length (zipWith (cosHalf f) u1 u2) ≡ 8 = length-zip (cosHalf f) u1 u2 (long1 ∙ sym long2) ∙ long2 in (
+        (λ l. first-half (zipWith (cosHalf f) u1 u2) (zipWith (sinHalf f) u1 u2) long r d l ∙ half-at (cosHalf f) (r % 8) (omega arith)),
+        (λ g l. second-half (zipWith (cosHalf f) u1 u2) (zipWith (sinHalf f) u1 u2) long r d g l ∙ half-at (sinHalf f) (r % 8) (omega arith)),
+      )
+
+pub row-5 : Row5
+row-5 words h k =
+    let q : ℕ = k / 16 in
+    let w : List ℕ = words q in
+    let r : ℕ = k % 16 in
+    let i< : r % 8 < 8 = omega arith in
+    let start = ap (λ (x : List ℕ). getD (normalsOf binary32 (lows x) (highs x)) r numbers.zero) (one-draw words q) in
+    let n = normals-at binary32 (lows w) (highs w) (length-lows w (h q)) (length-highs w (h q)) r numbers.zero in
+    let low = low-at w (h q) (r % 8) i< in
+    let high = high-at w (h q) (r % 8) i< in (
+      (λ l. start ∙ n .0 l ∙ λ j. cosHalf binary32 (oneMinusUnit binary32 (low j)) (unit binary32 (high j))),
+      (λ l. start ∙ n .1 l (omega arith) ∙ λ j. sinHalf binary32 (oneMinusUnit binary32 (low j)) (unit binary32 (high j))),
+    )
+
+pub row-6 : Row6
+row-6 words h k =
+    let q : ℕ = k / 16 in
+    let e : 2 * q + 0 ≡ 2 * q = omega arith in
+    let start = ap (λ (x : List ℕ). getD (normalsOf binary64 x (words (2 * q + 1))) (k % 16) numbers.zero) (ap words e) in
+    let n = normals-at binary64 (words (2 * q)) (words (2 * q + 1)) (h (2 * q)) (h (2 * q + 1)) (k % 16) numbers.zero in
+    ((λ l. start ∙ n .0 l), (λ l. start ∙ n .1 l (omega arith)))
+
+pub draws-and-widths : DrawsAndWidths
+draws-and-widths n =
+    record {
+      draws1 = omega arith;
+      draws2 = omega arith;
+      draws3 = omega arith;
+      draws4 = omega arith;
+      draws5 = omega arith;
+      draws6 = refl;
+      width1 = refl;
+      width2 = refl;
+      width3 = refl;
+      width4 = refl;
+      width5 = refl;
+      width6 = refl;
+    }
+
+-- ---- the refusals of a byte fill
+pub refusals : Refusals
+unfolding refusalOf
+refusals k n =
+    record {
+      accepted = λ e. back (leb 1 k) (leb k 6) (eqb (n % w) 0) refl refl refl e;
+      accepts = λ a b z. simp (le-leb 1 k a, le-leb k 6 b, eq-eqb (n % w) 0 z);
+      below = λ h. simp (lt-leb 1 k h);
+      above = λ h. simp (le-leb 1 k (omega arith), lt-leb k 6 h);
+      length = λ a b z. simp (le-leb 1 k a, le-leb k 6 b, ne-eqb (n % w) 0 z);
+    }
+  where
+    w : ℕ
+    w = kindAt k .kind .width
+
+    back : (a b c : Bool) → leb 1 k ≡ a → leb k 6 ≡ b → eqb (n % w) 0 ≡ c → _≡_ {A = ℕ} (cond (a && b) (cond c 0 5) 4) 0 → (1 ≤ k) × (k ≤ 6) × (n % w ≡ 0)
+    back true true true p q r e = (leb-true 1 k p, leb-true k 6 q, eqb-true (n % w) 0 r)
+    back true true false p q r e = absurd (omega arith)
+    back true false c p q r e = absurd (omega arith)
+    back false b c p q r e = absurd (omega arith)
+
+-- ---- bytes and elements
+pub bytes-of-the-fill : BytesOfTheFill
+unfolding bytesWritten bytesDraws
+bytes-of-the-fill G words next k g gᵇ gᵗ before after old new dᵇ dᵗ B T long =
+    let K = kindAt k .kind in
+    let n : elements k (length before) ≡ length old = div-eq-of-eq-mul-left (row k .wide) long in
+    let W : ℕ → List ℕ = λ m. words (iterate next m g) in
+    let draws : dᵇ ≡ dᵗ = B .count ∙ ap (drawsFor K) n ∙ sym (T .count) in (
+      B .writes ∙ ap (λ (m : ℕ). flat (bytesOf K) (table m (element K W))) n ∙ ap (flat (bytesOf K)) (sym (T .writes)),
+      draws,
+      B .state ∙ ap (λ (m : ℕ). iterate next m g) draws ∙ sym (T .state),
+    )

@@ -1,0 +1,38 @@
+-- Words drawn ahead into a buffer of 64 draws, and the groups made of them: how the fills work, no part of what they promise.
+use mathlib.Core.List.{List}
+use mathlib.Core.Path.{_≡_}
+use Prim.Native.Nat.{ℕ, zero, suc, _+_, _*_, _/_, _<_, min}
+use lib.ListN.{getD}
+use Rattle.base.specs.Bytes.{flat}
+use Rattle.base.specs.Iterate.{iterate}
+use Rattle.base.specs.Stored.{stored}
+use Rattle.base.specs.Table.{table}
+use Rattle.fills.specs.Fill.{Kind, roundUp}
+use Rattle.fills.specs.FillBytes.{bytesOf}
+
+-- draw i of the buffer: eight words
+unfoldable pub drawOf : List ℕ → ℕ → List ℕ
+drawOf b i = table 8 (λ r. getD b (i * 8 + r) 0)
+
+-- m draws from g on stand in the buffer b; g′ is the generator after them
+pub record Drawn {G : Type 0} (words : G → List ℕ) (next : G → G) (g : G) (m : ℕ) (b : List ℕ) (draws : ℕ) (g′ : G) : Type 0 where
+  pub held : (i : ℕ) → i < m → drawOf b i ≡ words (iterate next i g)
+  pub count : draws ≡ m
+  pub state : g′ ≡ iterate next m g
+
+-- the groups that n places begin, at most as many as a buffer has draws for
+abbrev pub groupsAhead : {A : Type 0} → Kind A → ℕ → ℕ
+groupsAhead K n = min (roundUp n (K .places)) (64 / K .draws)
+
+-- and their draws
+abbrev pub drawsAhead : {A : Type 0} → Kind A → ℕ → ℕ
+drawsAhead K n = K .draws * groupsAhead K n
+
+-- l with the first q groups of a buffer's draws stored from at on, as far as l has places
+unfoldable pub storedGroups : {A : Type 0} → Kind A → List ℕ → List A → ℕ → ℕ → List A
+storedGroups K b l at zero = l
+storedGroups K b l at (suc j) = stored (storedGroups K b l at j) (at + j * K .places) (K .group (λ m. drawOf b (K .draws * j + m)))
+
+-- the kind whose elements are the bytes of another's
+abbrev pub bytesKind : {A : Type 0} → Kind A → Kind ℕ
+bytesKind K = record { places = K .places * K .width; draws = K .draws; group = λ W. flat (bytesOf K) (K .group W); width = 1; bits = λ x. x; blank = 0 }

@@ -1,0 +1,95 @@
+-- What is claimed of the table and of the fills that promise it. Each claim is proved in proofs/Theorems.antt.
+-- `words m` are the words of draw m, counted from 0 at the fill's start; q stands for k / 16 and r for k mod 16.
+use mathlib.Core.List.{List}
+use mathlib.Core.Path.{_≡_}
+use Prim.Native.Nat.{ℕ, _+_, _-_, _*_, _/_, _%_, _^_, _<_, _≤_}
+use lib.Ieee.{Float, binary32, binary64}
+use lib.ListN.{length, getD}
+use Rattle.base.specs.Bytes.{flat}
+use Rattle.units.specs.Unit.{unit, oneMinusUnit}
+use Rattle.math.specs.BoxMuller.{cosHalf, sinHalf}
+use Rattle.fills.specs.Fill.{roundUp, drawsFor, element, Filled}
+use Rattle.fills.specs.Kinds.{u64s, u32s, f32s, f64s, normalF32s, normalF64s, kindAt}
+use Rattle.fills.specs.FillBytes.{bytesOf, refusalOf, FilledBytes}
+
+-- ---- the table, row by row: element k, where each draw has eight words
+abbrev pub Row : {A : Type 0} → ((ℕ → List ℕ) → ℕ → A) → ((ℕ → List ℕ) → ℕ → A) → Type 0
+Row says element = (words : ℕ → List ℕ) → ((m : ℕ) → length (words m) ≡ 8) → (k : ℕ) → element words k ≡ says words k
+
+-- word i of draw m
+abbrev pub word : (ℕ → List ℕ) → ℕ → ℕ → ℕ
+word words m i = getD (words m) i 0
+
+-- a row whose groups have two halves: one rule where r < 8, another where it is not
+abbrev pub Halves : {A : Type 0} → ((ℕ → List ℕ) → ℕ → A) → ((ℕ → List ℕ) → ℕ → A) → ((ℕ → List ℕ) → ℕ → A) → Type 0
+Halves below above element =
+    (words : ℕ → List ℕ) → ((m : ℕ) → length (words m) ≡ 8) → (k : ℕ)
+    → (k % 16 < 8 → element words k ≡ below words k) × (8 ≤ k % 16 → element words k ≡ above words k)
+
+-- 1: word k mod 8 of draw floor(k / 8)
+abbrev pub Row1 : Type 0
+Row1 = Row (λ words k. word words (k / 8) (k % 8)) (element u64s)
+
+-- 2: draw q: low half of word r if r < 8, else high half of word r - 8
+abbrev pub Row2 : Type 0
+Row2 = Halves (λ words k. word words (k / 16) (k % 16) % 2 ^ 32) (λ words k. word words (k / 16) (k % 16 - 8) / 2 ^ 32) (element u32s)
+
+-- 3: unit of kind 2; 4: unit of kind 1
+abbrev pub Row3 : Type 0
+Row3 = Row (λ words k. unit binary32 (element u32s words k)) (element f32s)
+
+abbrev pub Row4 : Type 0
+Row4 = Row (λ words k. unit binary64 (element u64s words k)) (element f64s)
+
+-- 5: lane r mod 8, u1 = 1 - unit of the low half and u2 = unit of the high half of that word of draw q; the cosine half if r < 8, else the sine half
+abbrev pub from32 : (Float → Float → Float) → (ℕ → List ℕ) → ℕ → Float
+from32 half words k =
+    let w = word words (k / 16) (k % 16 % 8) in
+    half (oneMinusUnit binary32 (w % 2 ^ 32)) (unit binary32 (w / 2 ^ 32))
+
+abbrev pub Row5 : Type 0
+Row5 = Halves (from32 (cosHalf binary32)) (from32 (sinHalf binary32)) (element normalF32s)
+
+-- 6: lane r mod 8, u1 = 1 - unit from draw 2 q, u2 = unit from draw 2 q + 1
+abbrev pub from64 : (Float → Float → Float) → (ℕ → List ℕ) → ℕ → Float
+from64 half words k = half (oneMinusUnit binary64 (word words (2 * (k / 16)) (k % 16 % 8))) (unit binary64 (word words (2 * (k / 16) + 1) (k % 16 % 8)))
+
+abbrev pub Row6 : Type 0
+Row6 = Halves (from64 (cosHalf binary64)) (from64 (sinHalf binary64)) (element normalF64s)
+
+-- the draws for n places, and the widths in bytes
+pub record Columns (n : ℕ) : Type 0 where
+  pub draws1 : drawsFor u64s n ≡ roundUp n 8
+  pub draws2 : drawsFor u32s n ≡ roundUp n 16
+  pub draws3 : drawsFor f32s n ≡ roundUp n 16
+  pub draws4 : drawsFor f64s n ≡ roundUp n 8
+  pub draws5 : drawsFor normalF32s n ≡ roundUp n 16
+  pub draws6 : drawsFor normalF64s n ≡ 2 * roundUp n 16
+  pub width1 : u64s .width ≡ 8
+  pub width2 : u32s .width ≡ 4
+  pub width3 : f32s .width ≡ 4
+  pub width4 : f64s .width ≡ 8
+  pub width5 : normalF32s .width ≡ 4
+  pub width6 : normalF64s .width ≡ 8
+
+abbrev pub DrawsAndWidths : Type 0
+DrawsAndWidths = (n : ℕ) → Columns n
+
+-- ---- the refusals of a byte fill: none exactly when the kind is 1 to 6 and the length a multiple of its width; 4 comes before 5
+pub record Judged (k n : ℕ) : Type 0 where
+  pub accepted : refusalOf k n ≡ 0 → (1 ≤ k) × (k ≤ 6) × (n % kindAt k .kind .width ≡ 0)
+  pub accepts : 1 ≤ k → k ≤ 6 → n % kindAt k .kind .width ≡ 0 → refusalOf k n ≡ 0
+  pub below : k < 1 → refusalOf k n ≡ 4
+  pub above : 6 < k → refusalOf k n ≡ 4
+  pub length : 1 ≤ k → k ≤ 6 → (n % kindAt k .kind .width ≡ 0 → ⊥) → refusalOf k n ≡ 5
+
+abbrev pub Refusals : Type 0
+Refusals = (k n : ℕ) → Judged k n
+
+-- ---- an accepted byte fill writes the bytes of the typed fill of as many elements, with the same draws and the same generator after it:
+-- for every kind of the table and every engine
+abbrev pub BytesOfTheFill : Type 1
+BytesOfTheFill =
+    (G : Type 0) (words : G → List ℕ) (next : G → G) (k : ℕ) (g gᵇ gᵗ : G) (before after : List ℕ) (old new : List (kindAt k .Element)) (dᵇ dᵗ : ℕ)
+    → FilledBytes words next k g before after 0 dᵇ gᵇ → Filled words next (kindAt k .kind) g old new dᵗ gᵗ → length before ≡ length old * kindAt k .kind .width
+    → (after ≡ flat (bytesOf (kindAt k .kind)) new) × (dᵇ ≡ dᵗ) × (gᵇ ≡ gᵗ)

@@ -1,0 +1,62 @@
+-- The table of kinds (the scope document, "Unit floats and fills"). A new kind is a new row.
+use mathlib.Core.List.{List, [], _∷_, _++_, map}
+use Prim.Native.Nat.{ℕ, _-_, _/_, _%_, _^_}
+use lib.ListN.{getD}
+use lib.Ieee.{Float, Format, binary32, binary64, toBits}
+use Rattle.base.specs.Zip.{zipWith}
+use Rattle.floats.specs.Numbers as numbers
+use Rattle.units.specs.Unit.{unit, oneMinusUnit}
+use Rattle.math.specs.BoxMuller.{cosHalf, sinHalf}
+use Rattle.fills.specs.Fill.{Kind}
+
+-- the low halves of words, and the high halves
+abbrev pub lows : List ℕ → List ℕ
+lows = map (λ w. w % 2 ^ 32)
+
+abbrev pub highs : List ℕ → List ℕ
+highs = map (λ w. w / 2 ^ 32)
+
+-- 1, u64: the words of a draw
+abbrev pub u64s : Kind ℕ
+u64s = record { places = 8; draws = 1; group = λ w. w 0; width = 8; bits = λ x. x; blank = 0 }
+
+-- 2, u32: their low halves, then their high halves
+abbrev pub u32s : Kind ℕ
+u32s = record { places = 16; draws = 1; group = λ w. lows (w 0) ++ highs (w 0); width = 4; bits = λ x. x; blank = 0 }
+
+-- 3, f32: the unit of each element of kind 2
+abbrev pub f32s : Kind Float
+f32s = record { places = 16; draws = 1; group = λ w. map (unit binary32) (lows (w 0) ++ highs (w 0)); width = 4; bits = toBits binary32; blank = numbers.zero }
+
+-- 4, f64: the unit of each element of kind 1
+abbrev pub f64s : Kind Float
+f64s = record { places = 8; draws = 1; group = λ w. map (unit binary64) (w 0); width = 8; bits = toBits binary64; blank = numbers.zero }
+
+-- the cosine halves of Box-Muller, then the sine halves; u1 is 1 - unit of a, u2 is unit of b
+abbrev pub normalsOf : Format → List ℕ → List ℕ → List Float
+normalsOf f a b =
+    let u1 = map (oneMinusUnit f) a in
+    let u2 = map (unit f) b in
+    zipWith (cosHalf f) u1 u2 ++ zipWith (sinHalf f) u1 u2
+
+-- 5, normal f32: u1 from the low half and u2 from the high half of a word
+abbrev pub normalF32s : Kind Float
+normalF32s = record { places = 16; draws = 1; group = λ w. normalsOf binary32 (lows (w 0)) (highs (w 0)); width = 4; bits = toBits binary32; blank = numbers.zero }
+
+-- 6, normal f64: u1 from a word of the group's first draw, u2 from that of its second
+abbrev pub normalF64s : Kind Float
+normalF64s = record { places = 16; draws = 2; group = λ w. normalsOf binary64 (w 0) (w 1); width = 8; bits = toBits binary64; blank = numbers.zero }
+
+-- the table: kind k is its row k, counted from 1
+pub record AnyKind : Type 1 where
+  pub Element : Type 0
+  pub kind : Kind Element
+
+abbrev pub of : {A : Type 0} → Kind A → AnyKind
+of {A} K = record { Element = A; kind = K }
+
+abbrev pub kinds : List AnyKind
+kinds = of u64s ∷ of u32s ∷ of f32s ∷ of f64s ∷ of normalF32s ∷ of normalF64s ∷ []
+
+unfoldable pub kindAt : ℕ → AnyKind
+kindAt k = getD kinds (k - 1) (of u64s)

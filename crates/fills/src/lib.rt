@@ -1,0 +1,1 @@
+// The table of kinds and the promise of every fill: definitions and laws (specs/, proofs/), no code.

@@ -1,0 +1,63 @@
+// Groups of unit f32 elements, made of the words of draws and stored in a slice: kind 3.
+ghost use mathlib.Core.List.{map};
+ghost use mathlib.Core.Path.{_≡_};
+ghost use Prim.Native.Nat.{_+_, _-_, _<_, min};
+ghost use lib.ListN.{length};
+ghost use Rattle.base.specs.Stored.{stored};
+ghost use lib.Ieee.{binary32};
+ghost use Rattle.fills.specs.Buffer.{groupsAhead, storedGroups};
+ghost use Rattle.fills.specs.Kinds.{f32s};
+ghost use Rattle.units.specs.Unit.{unit};
+
+// Stores the first `n` of `v` in the places from `at` on.
+fn put_f32_n(out: &mut [f32], at: usize, v: [f32; 8], n: usize)
+    requires { ⌜ n ≡ min (length (now out) - at) 8 ⌝ }
+    ensures { λ _. ⌜ now (out .exit) ≡ stored (now (out .entry)) at v ⌝ }
+{
+    for i in 0..n {
+        out[at + i] = v[i];
+    }
+}
+
+// Stores `v` in the places from `at` on, as far as `out` has them.
+pub fn put_f32(out: &mut [f32], at: usize, v: [f32; 8])
+    ensures { λ _. ⌜ now (out .exit) ≡ stored (now (out .entry)) at v ⌝ }
+{
+    let n = groups::room(out.len(), at, 8);
+    // eight stores that the compiler knows to be eight are the fast ones
+    if n == 8 {
+        put_f32_n(out, at, v, 8);
+    } else {
+        put_f32_n(out, at, v, n);
+    }
+}
+
+// The units of eight halves.
+pub fn units_f32(h: [u32; 8]) -> [f32; 8]
+    ensures { λ r. ⌜ r ≡ map (unit binary32) h ⌝ }
+{
+    let mut out = [0.0f32; 8];
+    for i in 0..8 {
+        out[i] = units::u32_to_unit_f32(h[i]);
+    }
+    out
+}
+
+// One group from the words of its draw.
+fn write_f32(out: &mut [f32], at: usize, w: [u64; 8])
+    requires { ⌜ at < length (now out) ⌝ }
+    ensures { λ _. ⌜ now (out .exit) ≡ stored (now (out .entry)) at (f32s .group (λ _. w)) ⌝ }
+{
+    put_f32(out, at, units_f32(groups::lows(w)));
+    put_f32(out, at + 8, units_f32(groups::highs(w)));
+}
+
+// The groups of the buffer `b` in the places from `at` on, as far as both go.
+pub fn map_f32(out: &mut [f32], at: usize, b: &[u64; 512])
+    ensures { λ _. ⌜ now (out .exit) ≡ storedGroups f32s (now (b .entry)) (now (out .entry)) at (groupsAhead f32s (length (now (out .entry)) - at)) ⌝ }
+{
+    let q = groups::groups_of(out.len(), at, 16, 64);
+    for j in 0..q {
+        write_f32(out, at + j * 16, groups::draw_of(b, j));
+    }
+}

@@ -1,0 +1,27 @@
+-- `groups_u32::map_u32` meets its contract.
+use Prim.Native.Nat.{_-_}
+use Rattle.fills.proofs.Buffered.{Grouping, group-none, group-more, group-end}
+use Rattle.fills.specs.Buffer.{drawOf, groupsAhead}
+use Rattle.fills.specs.Kinds.{u32s}
+use borrow.Author.Needs.{needs}
+use lib.ListN.{length}
+use mathlib.Core.Path.{ap, _∙_}
+use native.Mathlib.Omega.{arith}
+use Rattle.groups_u32.proofs.map_u32.Statement.{statement}
+use Rattle.groups_u32.proofs.map_u32.Tie as tie
+
+abbrev Inv-loop : tie.InvT-loop
+Inv-loop out₀ at b q j₀ out j = Grouping u32s b out₀ at (groupsAhead u32s (length out₀ - at)) out j
+
+abbrev μ-loop : tie.MeasureT-loop
+μ-loop out₀ at b q j₀ out j = q - j
+
+loop-again : tie.Need-loop-again Inv-loop μ-loop
+loop-again c =
+    let p = c .before .before in
+    let d = p .before in
+    let l = d .before .before in
+    group-more (l .before .loop .inv) (search needs) (p .write-u32 .ensures) (ap (λ w. u32s .group (λ _. w)) (d .draw-of .ensures ∙ ap (drawOf _) (omega arith)))
+
+pub map-u32-spec : {M : Type 1} → statement M
+map-u32-spec = tie.close (tie.spec Inv-loop μ-loop (λ c κs. search needs) (λ c. group-none) (λ c. search needs) (λ c. search needs) (λ c κs. search needs) (λ c κs. search needs) (λ c. search needs) (λ c. search needs) loop-again (λ c. search needs) (λ c. group-end (c .before .loop .inv) (search needs)))

@@ -1,0 +1,49 @@
+// Groups of u32 elements, made of the words of draws and stored in a slice: kind 2.
+ghost use mathlib.Core.Path.{_≡_};
+ghost use Prim.Native.Nat.{_+_, _-_, _<_, min};
+ghost use lib.ListN.{length};
+ghost use Rattle.base.specs.Stored.{stored};
+ghost use Rattle.fills.specs.Buffer.{groupsAhead, storedGroups};
+ghost use Rattle.fills.specs.Kinds.{u32s};
+
+// Stores the first `n` of `v` in the places from `at` on.
+fn put_u32_n(out: &mut [u32], at: usize, v: [u32; 8], n: usize)
+    requires { ⌜ n ≡ min (length (now out) - at) 8 ⌝ }
+    ensures { λ _. ⌜ now (out .exit) ≡ stored (now (out .entry)) at v ⌝ }
+{
+    for i in 0..n {
+        out[at + i] = v[i];
+    }
+}
+
+// Stores `v` in the places from `at` on, as far as `out` has them.
+pub fn put_u32(out: &mut [u32], at: usize, v: [u32; 8])
+    ensures { λ _. ⌜ now (out .exit) ≡ stored (now (out .entry)) at v ⌝ }
+{
+    let n = groups::room(out.len(), at, 8);
+    // eight stores that the compiler knows to be eight are the fast ones
+    if n == 8 {
+        put_u32_n(out, at, v, 8);
+    } else {
+        put_u32_n(out, at, v, n);
+    }
+}
+
+// One group from the words of its draw.
+fn write_u32(out: &mut [u32], at: usize, w: [u64; 8])
+    requires { ⌜ at < length (now out) ⌝ }
+    ensures { λ _. ⌜ now (out .exit) ≡ stored (now (out .entry)) at (u32s .group (λ _. w)) ⌝ }
+{
+    put_u32(out, at, groups::lows(w));
+    put_u32(out, at + 8, groups::highs(w));
+}
+
+// The groups of the buffer `b` in the places from `at` on, as far as both go.
+pub fn map_u32(out: &mut [u32], at: usize, b: &[u64; 512])
+    ensures { λ _. ⌜ now (out .exit) ≡ storedGroups u32s (now (b .entry)) (now (out .entry)) at (groupsAhead u32s (length (now (out .entry)) - at)) ⌝ }
+{
+    let q = groups::groups_of(out.len(), at, 16, 64);
+    for j in 0..q {
+        write_u32(out, at + j * 16, groups::draw_of(b, j));
+    }
+}

@@ -1,0 +1,361 @@
+// Philox4x32-10 and its fills for a caller in C: a static library that tests/oracle links beside the Rust. The first five arguments are the
+// generator's fields; each call leaves in them the generator after the call.
+use philox_x8::Philox4x32X8;
+ghost use mathlib.Core.Path.{_≡_};
+ghost use Rattle.fills.specs.Fill.{Filled};
+ghost use Rattle.fills.specs.FillBytes.{FilledBytes};
+ghost use Rattle.fills.specs.Kinds.{u64s, u32s, f32s, f64s, normalF32s, normalF64s};
+ghost use Rattle.philox_x8.specs.Machine.{wordsOf, nextOf, drawn, fresh, sought, grouped};
+ghost use Rattle.oracle_philox.specs.States.{counted, blocksOf};
+
+#[no_mangle]
+pub extern "C" fn oracle_philox_new(
+    key: &mut [u32; 2],
+    stream: &mut u64,
+    counter: &mut u64,
+    waiting: &mut bool,
+    pending: &mut [u64; 8],
+    seed: u64,
+    id: u64,
+)
+    ensures { λ _. ⌜ counted (now (key .exit)) (now (stream .exit)) (now (counter .exit)) (now (waiting .exit)) (now (pending .exit)) ≡ fresh seed id ⌝ }
+{
+    let rng = Philox4x32X8::new(seed, id);
+    let k = rng.key;
+    let p = rng.pending;
+    *key = k;
+    *stream = rng.stream;
+    *counter = rng.counter;
+    *waiting = rng.waiting;
+    *pending = p;
+}
+
+#[no_mangle]
+pub extern "C" fn oracle_philox_seek(
+    key: &mut [u32; 2],
+    stream: &mut u64,
+    counter: &mut u64,
+    waiting: &mut bool,
+    pending: &mut [u64; 8],
+    block: u64,
+)
+    ensures { λ _. ⌜ counted (now (key .exit)) (now (stream .exit)) (now (counter .exit)) (now (waiting .exit)) (now (pending .exit)) ≡ sought (counted (now (key .entry)) (now (stream .entry)) (now (counter .entry)) (now (waiting .entry)) (now (pending .entry))) block ⌝ }
+{
+    let k = *key;
+    let p = *pending;
+    let g = Philox4x32X8 {
+        key: k,
+        stream: *stream,
+        counter: *counter,
+        waiting: *waiting,
+        pending: p,
+    };
+    let rng = g.seek(block);
+    let k = rng.key;
+    let p = rng.pending;
+    *key = k;
+    *stream = rng.stream;
+    *counter = rng.counter;
+    *waiting = rng.waiting;
+    *pending = p;
+}
+
+#[no_mangle]
+pub extern "C" fn oracle_philox_next_u64x8(
+    key: &mut [u32; 2],
+    stream: &mut u64,
+    counter: &mut u64,
+    waiting: &mut bool,
+    pending: &mut [u64; 8],
+    words: &mut [u64; 8],
+)
+    ensures { λ _. ⌜ record { words = now (words .exit); rng = counted (now (key .exit)) (now (stream .exit)) (now (counter .exit)) (now (waiting .exit)) (now (pending .exit)) } ≡ drawn (counted (now (key .entry)) (now (stream .entry)) (now (counter .entry)) (now (waiting .entry)) (now (pending .entry))) ⌝ }
+{
+    let k = *key;
+    let p = *pending;
+    let g = Philox4x32X8 {
+        key: k,
+        stream: *stream,
+        counter: *counter,
+        waiting: *waiting,
+        pending: p,
+    };
+    let d = g.next_u64x8();
+    let w = d.words;
+    *words = w;
+    let rng = d.rng;
+    let k = rng.key;
+    let p = rng.pending;
+    *key = k;
+    *stream = rng.stream;
+    *counter = rng.counter;
+    *waiting = rng.waiting;
+    *pending = p;
+}
+
+// `words` has word k of block i at place i of row k.
+#[no_mangle]
+pub extern "C" fn oracle_philox_blocks(
+    key: &mut [u32; 2],
+    stream: &mut u64,
+    counter: &mut u64,
+    waiting: &mut bool,
+    pending: &mut [u64; 8],
+    words: &mut [[u32; 8]; 4],
+)
+    ensures { λ _. ⌜ blocksOf (now (words .exit)) (counted (now (key .exit)) (now (stream .exit)) (now (counter .exit)) (now (waiting .exit)) (now (pending .exit))) ≡ grouped (counted (now (key .entry)) (now (stream .entry)) (now (counter .entry)) (now (waiting .entry)) (now (pending .entry))) ⌝ }
+{
+    let k = *key;
+    let p = *pending;
+    let g = Philox4x32X8 {
+        key: k,
+        stream: *stream,
+        counter: *counter,
+        waiting: *waiting,
+        pending: p,
+    };
+    let b = g.blocks();
+    let w0 = b.w0;
+    let w1 = b.w1;
+    let w2 = b.w2;
+    let w3 = b.w3;
+    let rows = [w0, w1, w2, w3];
+    *words = rows;
+    let rng = b.rng;
+    let k = rng.key;
+    let p = rng.pending;
+    *key = k;
+    *stream = rng.stream;
+    *counter = rng.counter;
+    *waiting = rng.waiting;
+    *pending = p;
+}
+
+// The fills answer their draws.
+#[no_mangle]
+pub extern "C" fn oracle_philox_fill_u64(
+    key: &mut [u32; 2],
+    stream: &mut u64,
+    counter: &mut u64,
+    waiting: &mut bool,
+    pending: &mut [u64; 8],
+    out: &mut [u64],
+) -> u64
+    ensures { λ r. ⌜ Filled wordsOf nextOf u64s (counted (now (key .entry)) (now (stream .entry)) (now (counter .entry)) (now (waiting .entry)) (now (pending .entry))) (now (out .entry)) (now (out .exit)) r (counted (now (key .exit)) (now (stream .exit)) (now (counter .exit)) (now (waiting .exit)) (now (pending .exit))) ⌝ }
+{
+    let k = *key;
+    let p = *pending;
+    let g = Philox4x32X8 {
+        key: k,
+        stream: *stream,
+        counter: *counter,
+        waiting: *waiting,
+        pending: p,
+    };
+    let f = philox_fills::fill_u64(g, out);
+    let rng = f.rng;
+    let k = rng.key;
+    let p = rng.pending;
+    *key = k;
+    *stream = rng.stream;
+    *counter = rng.counter;
+    *waiting = rng.waiting;
+    *pending = p;
+    f.draws
+}
+
+#[no_mangle]
+pub extern "C" fn oracle_philox_fill_u32(
+    key: &mut [u32; 2],
+    stream: &mut u64,
+    counter: &mut u64,
+    waiting: &mut bool,
+    pending: &mut [u64; 8],
+    out: &mut [u32],
+) -> u64
+    ensures { λ r. ⌜ Filled wordsOf nextOf u32s (counted (now (key .entry)) (now (stream .entry)) (now (counter .entry)) (now (waiting .entry)) (now (pending .entry))) (now (out .entry)) (now (out .exit)) r (counted (now (key .exit)) (now (stream .exit)) (now (counter .exit)) (now (waiting .exit)) (now (pending .exit))) ⌝ }
+{
+    let k = *key;
+    let p = *pending;
+    let g = Philox4x32X8 {
+        key: k,
+        stream: *stream,
+        counter: *counter,
+        waiting: *waiting,
+        pending: p,
+    };
+    let f = philox_fills::fill_u32(g, out);
+    let rng = f.rng;
+    let k = rng.key;
+    let p = rng.pending;
+    *key = k;
+    *stream = rng.stream;
+    *counter = rng.counter;
+    *waiting = rng.waiting;
+    *pending = p;
+    f.draws
+}
+
+#[no_mangle]
+pub extern "C" fn oracle_philox_fill_f32(
+    key: &mut [u32; 2],
+    stream: &mut u64,
+    counter: &mut u64,
+    waiting: &mut bool,
+    pending: &mut [u64; 8],
+    out: &mut [f32],
+) -> u64
+    ensures { λ r. ⌜ Filled wordsOf nextOf f32s (counted (now (key .entry)) (now (stream .entry)) (now (counter .entry)) (now (waiting .entry)) (now (pending .entry))) (now (out .entry)) (now (out .exit)) r (counted (now (key .exit)) (now (stream .exit)) (now (counter .exit)) (now (waiting .exit)) (now (pending .exit))) ⌝ }
+{
+    let k = *key;
+    let p = *pending;
+    let g = Philox4x32X8 {
+        key: k,
+        stream: *stream,
+        counter: *counter,
+        waiting: *waiting,
+        pending: p,
+    };
+    let f = philox_fills::fill_f32(g, out);
+    let rng = f.rng;
+    let k = rng.key;
+    let p = rng.pending;
+    *key = k;
+    *stream = rng.stream;
+    *counter = rng.counter;
+    *waiting = rng.waiting;
+    *pending = p;
+    f.draws
+}
+
+#[no_mangle]
+pub extern "C" fn oracle_philox_fill_f64(
+    key: &mut [u32; 2],
+    stream: &mut u64,
+    counter: &mut u64,
+    waiting: &mut bool,
+    pending: &mut [u64; 8],
+    out: &mut [f64],
+) -> u64
+    ensures { λ r. ⌜ Filled wordsOf nextOf f64s (counted (now (key .entry)) (now (stream .entry)) (now (counter .entry)) (now (waiting .entry)) (now (pending .entry))) (now (out .entry)) (now (out .exit)) r (counted (now (key .exit)) (now (stream .exit)) (now (counter .exit)) (now (waiting .exit)) (now (pending .exit))) ⌝ }
+{
+    let k = *key;
+    let p = *pending;
+    let g = Philox4x32X8 {
+        key: k,
+        stream: *stream,
+        counter: *counter,
+        waiting: *waiting,
+        pending: p,
+    };
+    let f = philox_fills::fill_f64(g, out);
+    let rng = f.rng;
+    let k = rng.key;
+    let p = rng.pending;
+    *key = k;
+    *stream = rng.stream;
+    *counter = rng.counter;
+    *waiting = rng.waiting;
+    *pending = p;
+    f.draws
+}
+
+#[no_mangle]
+pub extern "C" fn oracle_philox_fill_normal_f32(
+    key: &mut [u32; 2],
+    stream: &mut u64,
+    counter: &mut u64,
+    waiting: &mut bool,
+    pending: &mut [u64; 8],
+    out: &mut [f32],
+) -> u64
+    ensures { λ r. ⌜ Filled wordsOf nextOf normalF32s (counted (now (key .entry)) (now (stream .entry)) (now (counter .entry)) (now (waiting .entry)) (now (pending .entry))) (now (out .entry)) (now (out .exit)) r (counted (now (key .exit)) (now (stream .exit)) (now (counter .exit)) (now (waiting .exit)) (now (pending .exit))) ⌝ }
+{
+    let k = *key;
+    let p = *pending;
+    let g = Philox4x32X8 {
+        key: k,
+        stream: *stream,
+        counter: *counter,
+        waiting: *waiting,
+        pending: p,
+    };
+    let f = philox_fills::fill_normal_f32(g, out);
+    let rng = f.rng;
+    let k = rng.key;
+    let p = rng.pending;
+    *key = k;
+    *stream = rng.stream;
+    *counter = rng.counter;
+    *waiting = rng.waiting;
+    *pending = p;
+    f.draws
+}
+
+#[no_mangle]
+pub extern "C" fn oracle_philox_fill_normal_f64(
+    key: &mut [u32; 2],
+    stream: &mut u64,
+    counter: &mut u64,
+    waiting: &mut bool,
+    pending: &mut [u64; 8],
+    out: &mut [f64],
+) -> u64
+    ensures { λ r. ⌜ Filled wordsOf nextOf normalF64s (counted (now (key .entry)) (now (stream .entry)) (now (counter .entry)) (now (waiting .entry)) (now (pending .entry))) (now (out .entry)) (now (out .exit)) r (counted (now (key .exit)) (now (stream .exit)) (now (counter .exit)) (now (waiting .exit)) (now (pending .exit))) ⌝ }
+{
+    let k = *key;
+    let p = *pending;
+    let g = Philox4x32X8 {
+        key: k,
+        stream: *stream,
+        counter: *counter,
+        waiting: *waiting,
+        pending: p,
+    };
+    let f = philox_fills::fill_normal_f64(g, out);
+    let rng = f.rng;
+    let k = rng.key;
+    let p = rng.pending;
+    *key = k;
+    *stream = rng.stream;
+    *counter = rng.counter;
+    *waiting = rng.waiting;
+    *pending = p;
+    f.draws
+}
+
+// Answers the refusal's number, and leaves the draws in `draws`.
+#[no_mangle]
+pub extern "C" fn oracle_philox_fill_bytes(
+    key: &mut [u32; 2],
+    stream: &mut u64,
+    counter: &mut u64,
+    waiting: &mut bool,
+    pending: &mut [u64; 8],
+    kind: u64,
+    out: &mut [u8],
+    draws: &mut u64,
+) -> u64
+    ensures { λ r. ⌜ FilledBytes wordsOf nextOf kind (counted (now (key .entry)) (now (stream .entry)) (now (counter .entry)) (now (waiting .entry)) (now (pending .entry))) (now (out .entry)) (now (out .exit)) r (now (draws .exit)) (counted (now (key .exit)) (now (stream .exit)) (now (counter .exit)) (now (waiting .exit)) (now (pending .exit))) ⌝ }
+{
+    let k = *key;
+    let p = *pending;
+    let g = Philox4x32X8 {
+        key: k,
+        stream: *stream,
+        counter: *counter,
+        waiting: *waiting,
+        pending: p,
+    };
+    let f = philox_fill_bytes::fill_bytes(g, kind, out);
+    let rng = f.rng;
+    let k = rng.key;
+    let p = rng.pending;
+    *key = k;
+    *stream = rng.stream;
+    *counter = rng.counter;
+    *waiting = rng.waiting;
+    *pending = p;
+    *draws = f.draws;
+    f.refusal
+}

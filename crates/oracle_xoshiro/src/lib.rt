@@ -1,0 +1,219 @@
+// The eight xoshiro256++ lanes and their fills for a caller in C: a static library that tests/oracle links beside the Rust. `s` is the
+// generator's four rows; each call leaves in it the generator after the call.
+use xoshiro_x8::Xoshiro256ppX8;
+ghost use mathlib.Core.Path.{_≡_};
+ghost use Rattle.fills.specs.Fill.{Filled};
+ghost use Rattle.fills.specs.FillBytes.{FilledBytes};
+ghost use Rattle.fills.specs.Kinds.{u64s, u32s, f32s, f64s, normalF32s, normalF64s};
+ghost use Rattle.xoshiro_x8.specs.Calls.{wordsOf, nextOf, drawn, placed, movedBlocks};
+ghost use Rattle.xoshiro_x8.specs.Lanes.{ofRows};
+
+// Answers the jumps.
+#[no_mangle]
+pub extern "C" fn oracle_xoshiro_from_seed_block(
+    s: &mut [[u64; 8]; 4],
+    seed: u64,
+    block: u64,
+) -> u64
+    ensures { λ r. ⌜ record { rng = ofRows (now (s .exit)); jumps = r } ≡ placed seed block ⌝ }
+{
+    let p = Xoshiro256ppX8::from_seed_block(seed, block);
+    let rng = p.rng;
+    let s0 = rng.s0;
+    let s1 = rng.s1;
+    let s2 = rng.s2;
+    let s3 = rng.s3;
+    let after = [s0, s1, s2, s3];
+    *s = after;
+    p.jumps
+}
+
+// Answers the jumps.
+#[no_mangle]
+pub extern "C" fn oracle_xoshiro_jump_blocks(s: &mut [[u64; 8]; 4], n: u64) -> u64
+    ensures { λ r. ⌜ record { rng = ofRows (now (s .exit)); jumps = r } ≡ movedBlocks n (ofRows (now (s .entry))) ⌝ }
+{
+    let s0 = s[0];
+    let s1 = s[1];
+    let s2 = s[2];
+    let s3 = s[3];
+    let g = Xoshiro256ppX8 { s0, s1, s2, s3 };
+    let p = g.jump_blocks(n);
+    let rng = p.rng;
+    let s0 = rng.s0;
+    let s1 = rng.s1;
+    let s2 = rng.s2;
+    let s3 = rng.s3;
+    let after = [s0, s1, s2, s3];
+    *s = after;
+    p.jumps
+}
+
+#[no_mangle]
+pub extern "C" fn oracle_xoshiro_next_u64x8(s: &mut [[u64; 8]; 4], words: &mut [u64; 8])
+    ensures { λ _. ⌜ record { words = now (words .exit); rng = ofRows (now (s .exit)) } ≡ drawn (ofRows (now (s .entry))) ⌝ }
+{
+    let s0 = s[0];
+    let s1 = s[1];
+    let s2 = s[2];
+    let s3 = s[3];
+    let g = Xoshiro256ppX8 { s0, s1, s2, s3 };
+    let d = g.next_u64x8();
+    let w = d.words;
+    *words = w;
+    let rng = d.rng;
+    let s0 = rng.s0;
+    let s1 = rng.s1;
+    let s2 = rng.s2;
+    let s3 = rng.s3;
+    let after = [s0, s1, s2, s3];
+    *s = after;
+}
+
+// The fills answer their draws.
+#[no_mangle]
+pub extern "C" fn oracle_xoshiro_fill_u64(s: &mut [[u64; 8]; 4], out: &mut [u64]) -> u64
+    ensures { λ r. ⌜ Filled wordsOf nextOf u64s (ofRows (now (s .entry))) (now (out .entry)) (now (out .exit)) r (ofRows (now (s .exit))) ⌝ }
+{
+    let s0 = s[0];
+    let s1 = s[1];
+    let s2 = s[2];
+    let s3 = s[3];
+    let g = Xoshiro256ppX8 { s0, s1, s2, s3 };
+    let f = xoshiro_fills::fill_u64(g, out);
+    let rng = f.rng;
+    let s0 = rng.s0;
+    let s1 = rng.s1;
+    let s2 = rng.s2;
+    let s3 = rng.s3;
+    let after = [s0, s1, s2, s3];
+    *s = after;
+    f.draws
+}
+
+#[no_mangle]
+pub extern "C" fn oracle_xoshiro_fill_u32(s: &mut [[u64; 8]; 4], out: &mut [u32]) -> u64
+    ensures { λ r. ⌜ Filled wordsOf nextOf u32s (ofRows (now (s .entry))) (now (out .entry)) (now (out .exit)) r (ofRows (now (s .exit))) ⌝ }
+{
+    let s0 = s[0];
+    let s1 = s[1];
+    let s2 = s[2];
+    let s3 = s[3];
+    let g = Xoshiro256ppX8 { s0, s1, s2, s3 };
+    let f = xoshiro_fills::fill_u32(g, out);
+    let rng = f.rng;
+    let s0 = rng.s0;
+    let s1 = rng.s1;
+    let s2 = rng.s2;
+    let s3 = rng.s3;
+    let after = [s0, s1, s2, s3];
+    *s = after;
+    f.draws
+}
+
+#[no_mangle]
+pub extern "C" fn oracle_xoshiro_fill_f32(s: &mut [[u64; 8]; 4], out: &mut [f32]) -> u64
+    ensures { λ r. ⌜ Filled wordsOf nextOf f32s (ofRows (now (s .entry))) (now (out .entry)) (now (out .exit)) r (ofRows (now (s .exit))) ⌝ }
+{
+    let s0 = s[0];
+    let s1 = s[1];
+    let s2 = s[2];
+    let s3 = s[3];
+    let g = Xoshiro256ppX8 { s0, s1, s2, s3 };
+    let f = xoshiro_fills::fill_f32(g, out);
+    let rng = f.rng;
+    let s0 = rng.s0;
+    let s1 = rng.s1;
+    let s2 = rng.s2;
+    let s3 = rng.s3;
+    let after = [s0, s1, s2, s3];
+    *s = after;
+    f.draws
+}
+
+#[no_mangle]
+pub extern "C" fn oracle_xoshiro_fill_f64(s: &mut [[u64; 8]; 4], out: &mut [f64]) -> u64
+    ensures { λ r. ⌜ Filled wordsOf nextOf f64s (ofRows (now (s .entry))) (now (out .entry)) (now (out .exit)) r (ofRows (now (s .exit))) ⌝ }
+{
+    let s0 = s[0];
+    let s1 = s[1];
+    let s2 = s[2];
+    let s3 = s[3];
+    let g = Xoshiro256ppX8 { s0, s1, s2, s3 };
+    let f = xoshiro_fills::fill_f64(g, out);
+    let rng = f.rng;
+    let s0 = rng.s0;
+    let s1 = rng.s1;
+    let s2 = rng.s2;
+    let s3 = rng.s3;
+    let after = [s0, s1, s2, s3];
+    *s = after;
+    f.draws
+}
+
+#[no_mangle]
+pub extern "C" fn oracle_xoshiro_fill_normal_f32(s: &mut [[u64; 8]; 4], out: &mut [f32]) -> u64
+    ensures { λ r. ⌜ Filled wordsOf nextOf normalF32s (ofRows (now (s .entry))) (now (out .entry)) (now (out .exit)) r (ofRows (now (s .exit))) ⌝ }
+{
+    let s0 = s[0];
+    let s1 = s[1];
+    let s2 = s[2];
+    let s3 = s[3];
+    let g = Xoshiro256ppX8 { s0, s1, s2, s3 };
+    let f = xoshiro_fills::fill_normal_f32(g, out);
+    let rng = f.rng;
+    let s0 = rng.s0;
+    let s1 = rng.s1;
+    let s2 = rng.s2;
+    let s3 = rng.s3;
+    let after = [s0, s1, s2, s3];
+    *s = after;
+    f.draws
+}
+
+#[no_mangle]
+pub extern "C" fn oracle_xoshiro_fill_normal_f64(s: &mut [[u64; 8]; 4], out: &mut [f64]) -> u64
+    ensures { λ r. ⌜ Filled wordsOf nextOf normalF64s (ofRows (now (s .entry))) (now (out .entry)) (now (out .exit)) r (ofRows (now (s .exit))) ⌝ }
+{
+    let s0 = s[0];
+    let s1 = s[1];
+    let s2 = s[2];
+    let s3 = s[3];
+    let g = Xoshiro256ppX8 { s0, s1, s2, s3 };
+    let f = xoshiro_fills::fill_normal_f64(g, out);
+    let rng = f.rng;
+    let s0 = rng.s0;
+    let s1 = rng.s1;
+    let s2 = rng.s2;
+    let s3 = rng.s3;
+    let after = [s0, s1, s2, s3];
+    *s = after;
+    f.draws
+}
+
+// Answers the refusal's number, and leaves the draws in `draws`.
+#[no_mangle]
+pub extern "C" fn oracle_xoshiro_fill_bytes(
+    s: &mut [[u64; 8]; 4],
+    kind: u64,
+    out: &mut [u8],
+    draws: &mut u64,
+) -> u64
+    ensures { λ r. ⌜ FilledBytes wordsOf nextOf kind (ofRows (now (s .entry))) (now (out .entry)) (now (out .exit)) r (now (draws .exit)) (ofRows (now (s .exit))) ⌝ }
+{
+    let s0 = s[0];
+    let s1 = s[1];
+    let s2 = s[2];
+    let s3 = s[3];
+    let g = Xoshiro256ppX8 { s0, s1, s2, s3 };
+    let f = xoshiro_fill_bytes::fill_bytes(g, kind, out);
+    let rng = f.rng;
+    let s0 = rng.s0;
+    let s1 = rng.s1;
+    let s2 = rng.s2;
+    let s3 = rng.s3;
+    let after = [s0, s1, s2, s3];
+    *s = after;
+    *draws = f.draws;
+    f.refusal
+}

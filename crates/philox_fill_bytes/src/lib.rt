@@ -1,0 +1,56 @@
+// The byte fills of Philox4x32-10: what a host asks for by a kind's number.
+use philox_fills::Fill;
+use philox_x8::Philox4x32X8;
+ghost use Rattle.fills.specs.Buffer.{bytesKind};
+ghost use Rattle.fills.specs.Fill.{Filled};
+ghost use Rattle.fills.specs.FillBytes.{FilledBytes};
+ghost use Rattle.fills.specs.Kinds.{kindAt};
+ghost use Rattle.philox_x8.specs.Machine.{wordsOf, nextOf};
+
+// The number of a byte fill's refusal, or 0; its draws, and the generator after them.
+pub struct ByteFill {
+    pub refusal: u64,
+    pub draws: u64,
+    pub rng: Philox4x32X8,
+}
+
+// The bytes of a kind.
+fn fill_kind(g: Philox4x32X8, kind: u64, out: &mut [u8]) -> Fill
+    ensures { λ r. ⌜ Filled wordsOf nextOf (bytesKind (kindAt kind .kind)) g (now (out .entry)) (now (out .exit)) (r .draws) (r .rng) ⌝ }
+{
+    let mut rng = g;
+    let mut draws: u64 = 0;
+    let mut at = 0;
+    let mut buf = [0u64; 512];
+    while at < out.len() {
+        let m = groups_bytes::draws_ahead(kind, out.len(), at);
+        let f = philox_fills::fill_buffer(rng, &mut buf, m);
+        groups_bytes::map_bytes(kind, out, at, &buf);
+        rng = f.rng;
+        draws += f.draws;
+        at += m * 64;
+    }
+    Fill { draws, rng }
+}
+
+// The bytes of the fill of a kind, by its number: elements little-endian, floats as their bits. Refused with 4 where `kind` is outside 1 to 6,
+// with 5 where the length isn't a multiple of the kind's width; then nothing changes.
+pub fn fill_bytes(g: Philox4x32X8, kind: u64, out: &mut [u8]) -> ByteFill
+    ensures { λ r. ⌜ FilledBytes wordsOf nextOf kind g (now (out .entry)) (now (out .exit)) (r .refusal) (r .draws) (r .rng) ⌝ }
+{
+    let refusal = groups_bytes::refusal_of(kind, out.len());
+    if refusal != 0 {
+        return ByteFill {
+            refusal,
+            draws: 0,
+            rng: g,
+        };
+    }
+    let f = fill_kind(g, kind, out);
+    let rng = f.rng;
+    ByteFill {
+        refusal: 0,
+        draws: f.draws,
+        rng,
+    }
+}

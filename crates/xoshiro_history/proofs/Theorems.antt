@@ -1,0 +1,81 @@
+-- The claim of specs/History.antt. Assumes nothing.
+use mathlib.Core.List.{List, [], _∷_}
+use mathlib.Core.Path.{_≡_, refl, sym, ap, _∙_, fun-ext}
+use Prim.Native.Nat.{ℕ, _+_}
+use native.Mathlib.Nat.{add-zero}
+use native.Mathlib.Omega.{arith}
+use lib.ListN.{length}
+use Rattle.base.specs.Iterate.{iterate}
+use Rattle.base.specs.Table.{table}
+use Rattle.fills.specs.Fill.{element}
+use Rattle.fills.proofs.Refusals.{accepted-writes, refused-kept, refused-stays, draws-made, draws-reported}
+use Rattle.xoshiro.specs.Xoshiro256pp.{State, seeded}
+use Rattle.xoshiro_x8.specs.Calls.{drawn, blockJumps, placed, movedBlocks}
+use Rattle.xoshiro_x8.specs.declared.Placed.{Placed}
+use Rattle.xoshiro_x8.specs.declared.Xoshiro256ppX8.{Xoshiro256ppX8}
+use Rattle.xoshiro_x8.proofs.Theorems.{lanes-start}
+use Rattle.xoshiro_history.specs.Calls.{Call, draw, fill, bytes, move, Step, rngOf, none, then}
+use Rattle.xoshiro_history.specs.History.{drawsReported, jumpsReported, drawsCounted, jumpsCounted, D, J, Right, DrawsAddUp}
+use Rattle.xoshiro_history.proofs.Lanes.{At, at-same, at-draws, at-move, words-at}
+
+-- one call: it reports what is counted, what it handed out is right, and the lanes stand where they should
+record One (s : State) (d j : ℕ) (g : Xoshiro256ppX8) (c : Call) : Type 0 where
+  draws : drawsReported c ≡ drawsCounted c
+  jumps : jumpsReported c ≡ jumpsCounted c
+  right : Right s d j g c
+  at : At s (d + drawsCounted c) (j + jumpsCounted c) (rngOf c)
+
+one : {s : State} {d j : ℕ} {g : Xoshiro256ppX8} → At s d j g → (c : Call) → Step g c → One s d j g c
+unfolding drawn movedBlocks iterate
+one {j = j} a (draw r) h =
+    record {
+      draws = refl;
+      jumps = refl;
+      right = ap (λ x. x .words) h ∙ words-at a;
+      at = at-same (at-draws 1 a) refl (sym (add-zero j)) (ap (λ x. x .rng) h);
+    }
+one {d = d} {j = j} a (fill K before after r) h =
+    record {
+      draws = h .count;
+      jumps = refl;
+      right = (h .count, h .writes ∙ ap (λ (W : ℕ → List ℕ). table (length before) (element K W)) (fun-ext (λ m. words-at (at-draws m a))));
+      at = at-same (at-draws (r .draws) a) (ap (λ (n : ℕ). d + n) (h .count)) (sym (add-zero j)) (h .state);
+    }
+one {d = d} {j = j} a (bytes k before after r) h =
+    record {
+      draws = draws-reported h ∙ draws-made h;
+      jumps = refl;
+      right =
+          record {
+            refuses = h .refuses;
+            writes = accepted-writes h _ (λ m. words-at (at-draws m a));
+            count = draws-made h;
+            kept = refused-kept h;
+            stays = refused-stays h;
+          };
+      at = at-same (at-draws (r .draws) a) (ap (λ (n : ℕ). d + n) (draws-made h)) (sym (add-zero j)) (h .state);
+    }
+one {d = d} a (move n r) h =
+    record {
+      draws = refl;
+      jumps = ap (λ x. x .jumps) h;
+      right = ap (λ x. x .jumps) h;
+      at = at-same (at-move n a) (sym (add-zero d)) refl (ap (λ x. x .rng) h);
+    }
+
+pub draws-add-up : DrawsAddUp
+unfolding placed iterate
+draws-add-up seed b p _ e none =
+    let a : At (seeded seed) 0 (blockJumps b) (placed seed b .rng) = record { lane = lanes-start seed b } in
+    let at : At (seeded seed) 0 (J b []) (p .rng) = at-same a refl (omega arith) (ap (λ (x : Placed). x .rng) e) in
+    record { draws = refl; jumps-total = omega (arith, ap (λ (x : Placed). x .jumps) e); lanes = at .lane; outputs = tt }
+draws-add-up seed b p _ e (then {c = c} {calls = calls} r h) =
+    let w = draws-add-up seed b p calls e r in
+    let o = one (record { lane = w .lanes }) c h in
+    let at : At (seeded seed) (D (c ∷ calls)) (J b (c ∷ calls)) (rngOf c) = at-same (o .at) refl (omega arith) refl in
+    record {
+      draws = omega (arith, w .draws, o .draws);
+      jumps-total = omega (arith, w .jumps-total, o .jumps);
+      lanes = at .lane;
+      outputs = (o .right, w .outputs);
+    }

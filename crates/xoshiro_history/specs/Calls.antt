@@ -1,0 +1,45 @@
+-- Lists of calls on one eight-lane generator (the scope document, "Lists of calls"). A list has its latest call first, so that its tail is
+-- what came before its head.
+use mathlib.Core.List.{List, [], _∷_}
+use mathlib.Core.Path.{_≡_}
+use Prim.Native.Nat.{ℕ}
+use Rattle.fills.specs.Fill.{Kind, Filled}
+use Rattle.fills.specs.FillBytes.{FilledBytes}
+use Rattle.xoshiro_x8.specs.Calls.{wordsOf, nextOf, drawn, movedBlocks}
+use Rattle.xoshiro_x8.specs.declared.Draw.{Draw}
+use Rattle.xoshiro_x8.specs.declared.Placed.{Placed}
+use Rattle.xoshiro_x8.specs.declared.Xoshiro256ppX8.{Xoshiro256ppX8}
+use Rattle.xoshiro_fill_bytes.specs.declared.ByteFill.{ByteFill}
+use Rattle.xoshiro_fills.specs.declared.Fill.{Fill}
+
+-- A call, with what it was handed besides the generator and what it handed back: a single draw (next_u64x8), a typed fill, a byte fill with
+-- its kind's number, a block move (jump_blocks). `before` and `after` are the lent slice at the call and at the return.
+pub data Call : Type 1 where
+  draw : (r : Draw) → Call
+  fill : {A : Type 0} (K : Kind A) (before after : List A) (r : Fill) → Call
+  bytes : (k : ℕ) (before after : List ℕ) (r : ByteFill) → Call
+  move : (n : ℕ) (r : Placed) → Call
+
+-- what the function promises of the call on the generator g: its `ensures`, word for word (proofs/Bridge.antt)
+abbrev pub Step : Xoshiro256ppX8 → Call → Type 0
+Step g (draw r) = r ≡ drawn g
+Step g (fill K before after r) = Filled wordsOf nextOf K g before after (r .draws) (r .rng)
+Step g (bytes k before after r) = FilledBytes wordsOf nextOf k g before after (r .refusal) (r .draws) (r .rng)
+Step g (move n r) = r ≡ movedBlocks n g
+
+-- the generator that the call handed back
+abbrev pub rngOf : Call → Xoshiro256ppX8
+rngOf (draw r) = r .rng
+rngOf (fill K before after r) = r .rng
+rngOf (bytes k before after r) = r .rng
+rngOf (move n r) = r .rng
+
+-- the generator after a list of calls that began with g₀
+abbrev pub rngAfter : Xoshiro256ppX8 → List Call → Xoshiro256ppX8
+rngAfter g₀ [] = g₀
+rngAfter g₀ (c ∷ calls) = rngOf c
+
+-- the calls were made one after another, each on the generator that the one before it handed back
+pub data Run (g₀ : Xoshiro256ppX8) : List Call → Type 1 where
+  none : Run g₀ []
+  then : {c : Call} {calls : List Call} → Run g₀ calls → Step (rngAfter g₀ calls) c → Run g₀ (c ∷ calls)

@@ -1,0 +1,511 @@
+//! Our engines and their fills, linked as static libraries, against the Rust's: the same calls on both sides, and after each of them the
+//! same bits in the lent buffer and around it, the same words handed out, and the same generator. The Rust counts neither draws nor jumps
+//! and refuses nothing: those numbers are the scope document's. The argument is how many lists of mixed calls each engine gets.
+use tpt_simd_rng::{Philox4x32X8, Rng8, Xoshiro256ppX8};
+
+/// SplitMix64, for the choice of calls and for what stands in a buffer before a fill.
+struct Random(u64);
+impl Random {
+    fn next(&mut self) -> u64 {
+        self.0 = self.0.wrapping_add(0x9E37_79B9_7F4A_7C15);
+        let z = (self.0 ^ (self.0 >> 30)).wrapping_mul(0xBF58_476D_1CE4_E5B9);
+        let z = (z ^ (z >> 27)).wrapping_mul(0x94D0_49BB_1331_11EB);
+        z ^ (z >> 31)
+    }
+    fn below(&mut self, n: u64) -> u64 {
+        (u128::from(self.next()) * u128::from(n) >> 64) as u64
+    }
+    fn of(&mut self, choices: &[u64]) -> u64 {
+        choices[self.below(choices.len() as u64) as usize]
+    }
+}
+
+/// What was compared, and what differed.
+#[derive(Default)]
+struct Count {
+    fills: u64,
+    elements: u64,
+    refused: u64,
+    others: u64,
+    differences: u64,
+}
+impl Count {
+    fn differ(&mut self, what: String) {
+        self.differences += 1;
+        if self.differences <= 5 {
+            println!("  DIFFERENCE: {what}");
+        }
+    }
+    fn report(&self, name: &str) -> u64 {
+        println!(
+            "  {name}: {} fills, {} elements compared, {} fills refused, {} other calls, {} differences",
+            self.fills, self.elements, self.refused, self.others, self.differences
+        );
+        self.differences
+    }
+}
+
+/// A row of the table of kinds: an element has `width` bytes, and a group of `places` elements takes `draws` draws.
+struct Kind {
+    name: &'static str,
+    number: u64,
+    width: usize,
+    places: usize,
+    draws: usize,
+}
+const KINDS: [Kind; 6] = [
+    Kind { name: "fill_u64", number: 1, width: 8, places: 8, draws: 1 },
+    Kind { name: "fill_u32", number: 2, width: 4, places: 16, draws: 1 },
+    Kind { name: "fill_f32", number: 3, width: 4, places: 16, draws: 1 },
+    Kind { name: "fill_f64", number: 4, width: 8, places: 8, draws: 1 },
+    Kind { name: "fill_normal_f32", number: 5, width: 4, places: 16, draws: 1 },
+    Kind { name: "fill_normal_f64", number: 6, width: 8, places: 16, draws: 2 },
+];
+impl Kind {
+    fn draws_for(&self, n: usize) -> u64 {
+        (self.draws * n.div_ceil(self.places)) as u64
+    }
+}
+
+/// An element from any bits, and its bytes.
+trait Element: Copy {
+    fn of(bits: u64) -> Self;
+    fn put(self, bytes: &mut Vec<u8>);
+}
+macro_rules! element {
+    ($type:ty, $of:expr) => {
+        impl Element for $type {
+            fn of(bits: u64) -> Self {
+                $of(bits)
+            }
+            fn put(self, bytes: &mut Vec<u8>) {
+                bytes.extend_from_slice(&self.to_le_bytes()); // of a float: those of its bits
+            }
+        }
+    };
+}
+element!(u8, |bits| bits as u8);
+element!(u32, |bits| bits as u32);
+element!(u64, |bits| bits);
+element!(f32, |bits| f32::from_bits(bits as u32));
+element!(f64, f64::from_bits);
+
+/// Lends `fill` the n places in the middle of a buffer of noise, and hands back the bytes of the whole buffer, and what `fill` answers.
+/// So a place that was left unwritten shows, and so does one that was written outside the slice.
+fn lent<T: Element, A>(n: usize, fill: impl FnOnce(&mut [T]) -> A) -> (Vec<u8>, A) {
+    let guard = 16 + n % 8; // a slice of bytes begins at any place of a word
+    let mut noise = Random(n as u64);
+    let mut buffer: Vec<T> = (0..n + 2 * guard).map(|_| T::of(noise.next())).collect();
+    let answer = fill(&mut buffer[guard..guard + n]);
+    let mut bytes = Vec::with_capacity(buffer.len() * size_of::<T>());
+    for x in buffer {
+        x.put(&mut bytes);
+    }
+    (bytes, answer)
+}
+
+/// Where two buffers first differ, if they do.
+fn first_unlike(ours: &[u8], after: &[u8]) -> String {
+    match ours.iter().zip(after).position(|(x, y)| x != y) {
+        Some(k) => format!(", byte {k} of the {} with both ends is {:02x} and not {:02x}", ours.len(), ours[k], after[k]),
+        None => String::new(),
+    }
+}
+
+/// The Rust's fill of n elements of a kind.
+fn expected<R: Rng8>(rust: &mut R, kind: u64, n: usize) -> Vec<u8> {
+    match kind {
+        1 => lent(n, |out| rust.fill_u64(out)).0,
+        2 => lent(n, |out| rust.fill_u32(out)).0,
+        3 => lent(n, |out| rust.fill_f32(out)).0,
+        4 => lent(n, |out| rust.fill_f64(out)).0,
+        5 => lent(n, |out| rust.fill_normal_f32(out)).0,
+        _ => lent(n, |out| rust.fill_normal_f64(out)).0,
+    }
+}
+
+/// Our generator beside the Rust's.
+trait Engine: Sized {
+    type Rust: Rng8;
+    const NAME: &'static str;
+    fn rust(&mut self) -> &mut Self::Rust;
+    fn same(&self) -> bool;
+
+    // Our calls. A fill of n elements answers its draws, a fill of n bytes the refusal's number and its draws.
+    fn fill(&mut self, kind: u64, n: usize) -> (Vec<u8>, u64);
+    fn fill_bytes(&mut self, kind: u64, n: usize) -> (Vec<u8>, (u64, u64));
+    fn draw(&mut self) -> [u64; 8];
+
+    // On both sides: one of some starts, a random start, and a random call that this engine alone has.
+    fn start(which: u64, count: &mut Count) -> Self;
+    fn random_start(random: &mut Random, count: &mut Count) -> Self;
+    fn own_call(&mut self, random: &mut Random, count: &mut Count);
+
+    fn check(&self, right: bool, what: impl Fn() -> String, count: &mut Count) {
+        if !right {
+            count.differ(format!("{} {}: not the expected answer", Self::NAME, what()));
+        }
+        if !self.same() {
+            count.differ(format!("{} {}: not the Rust's generator afterwards", Self::NAME, what()));
+        }
+    }
+
+    fn typed(&mut self, kind: &Kind, n: usize, count: &mut Count) {
+        let (ours, draws) = self.fill(kind.number, n);
+        let after = expected(self.rust(), kind.number, n);
+        let right = ours == after && draws == kind.draws_for(n);
+        count.fills += 1;
+        count.elements += n as u64;
+        self.check(right, || format!("{} of {n} elements, {draws} draws{}", kind.name, first_unlike(&ours, &after)), count);
+    }
+
+    /// A fill of n bytes, against the bytes of the Rust's elements. Where it should be refused, nothing happens on the Rust's side.
+    fn bytes(&mut self, number: u64, n: usize, count: &mut Count) {
+        let kind = KINDS.iter().find(|kind| kind.number == number);
+        let (ours, (refusal, draws)) = self.fill_bytes(number, n);
+        let (answer, after) = match kind {
+            Some(kind) if n % kind.width == 0 => {
+                let whole = expected(self.rust(), number, n / kind.width);
+                let guard = (whole.len() - n) / 2;
+                count.fills += 1;
+                count.elements += (n / kind.width) as u64;
+                ((0, kind.draws_for(n / kind.width)), lent(n, |out: &mut [u8]| out.copy_from_slice(&whole[guard..guard + n])).0)
+            }
+            _ => {
+                count.refused += 1;
+                ((if kind.is_none() { 4 } else { 5 }, 0), lent(n, |_: &mut [u8]| ()).0)
+            }
+        };
+        let right = ours == after && (refusal, draws) == answer;
+        let what = || format!("fill_bytes of kind {number}, {n} bytes, refusal {refusal}, {draws} draws{}", first_unlike(&ours, &after));
+        self.check(right, what, count);
+    }
+
+    fn single(&mut self, count: &mut Count) {
+        let right = self.draw() == self.rust().next_u64x8();
+        count.others += 1;
+        self.check(right, || "next_u64x8".to_string(), count);
+    }
+}
+
+/// A fill of ours, lent what it writes to.
+macro_rules! ours {
+    ($call:ident, $n:expr, $($state:expr),*) => {
+        lent($n, |out| unsafe { $call($($state,)* out.as_mut_ptr(), out.len()) })
+    };
+}
+
+// ---- xoshiro
+
+type Rows = [[u64; 8]; 4];
+extern "C" {
+    fn oracle_xoshiro_from_seed_block(s: &mut Rows, seed: u64, block: u64) -> u64;
+    fn oracle_xoshiro_jump_blocks(s: &mut Rows, n: u64) -> u64;
+    fn oracle_xoshiro_next_u64x8(s: &mut Rows, words: &mut [u64; 8]);
+    fn oracle_xoshiro_fill_u64(s: &mut Rows, out: *mut u64, n: usize) -> u64;
+    fn oracle_xoshiro_fill_u32(s: &mut Rows, out: *mut u32, n: usize) -> u64;
+    fn oracle_xoshiro_fill_f32(s: &mut Rows, out: *mut f32, n: usize) -> u64;
+    fn oracle_xoshiro_fill_f64(s: &mut Rows, out: *mut f64, n: usize) -> u64;
+    fn oracle_xoshiro_fill_normal_f32(s: &mut Rows, out: *mut f32, n: usize) -> u64;
+    fn oracle_xoshiro_fill_normal_f64(s: &mut Rows, out: *mut f64, n: usize) -> u64;
+    fn oracle_xoshiro_fill_bytes(s: &mut Rows, kind: u64, out: *mut u8, n: usize, draws: &mut u64) -> u64;
+}
+
+struct Xoshiro {
+    s: Rows,
+    rust: Xoshiro256ppX8,
+}
+
+/// So many blocks are 2^64 jumps, which both sides take for none.
+const ROUND: u64 = 1 << 61;
+
+impl Xoshiro {
+    fn placed(seed: u64, block: u64, count: &mut Count) -> Self {
+        let mut s = [[7; 8]; 4];
+        let jumps = unsafe { oracle_xoshiro_from_seed_block(&mut s, seed, block) };
+        let g = Xoshiro { s, rust: Xoshiro256ppX8::from_seed_block(seed, block) };
+        count.others += 1;
+        g.check(jumps == block.wrapping_mul(8), || format!("from_seed_block({seed}, {block}), {jumps} jumps"), count);
+        g
+    }
+}
+
+impl Engine for Xoshiro {
+    type Rust = Xoshiro256ppX8;
+    const NAME: &'static str = "xoshiro";
+
+    fn rust(&mut self) -> &mut Xoshiro256ppX8 {
+        &mut self.rust
+    }
+    fn same(&self) -> bool {
+        (0..8).all(|i| self.rust.lane(i).state() == self.s.map(|row| row[i]))
+    }
+
+    fn fill(&mut self, kind: u64, n: usize) -> (Vec<u8>, u64) {
+        let s = &mut self.s;
+        match kind {
+            1 => ours!(oracle_xoshiro_fill_u64, n, s),
+            2 => ours!(oracle_xoshiro_fill_u32, n, s),
+            3 => ours!(oracle_xoshiro_fill_f32, n, s),
+            4 => ours!(oracle_xoshiro_fill_f64, n, s),
+            5 => ours!(oracle_xoshiro_fill_normal_f32, n, s),
+            _ => ours!(oracle_xoshiro_fill_normal_f64, n, s),
+        }
+    }
+    fn fill_bytes(&mut self, kind: u64, n: usize) -> (Vec<u8>, (u64, u64)) {
+        let mut draws = u64::MAX; // so that a number left unwritten shows
+        lent(n, |out| {
+            let refusal = unsafe { oracle_xoshiro_fill_bytes(&mut self.s, kind, out.as_mut_ptr(), out.len(), &mut draws) };
+            (refusal, draws)
+        })
+    }
+    fn draw(&mut self) -> [u64; 8] {
+        let mut words = [7; 8];
+        unsafe { oracle_xoshiro_next_u64x8(&mut self.s, &mut words) };
+        words
+    }
+
+    fn start(which: u64, count: &mut Count) -> Self {
+        match which {
+            0 => Self::placed(0, 0, count),
+            1 => Self::placed(42, 1, count),
+            2 => Self::placed(0x0123_4567_89ab_cdef, ROUND + 3, count),
+            _ => Self::placed(u64::MAX, 13, count),
+        }
+    }
+    fn random_start(random: &mut Random, count: &mut Count) -> Self {
+        let block = random.below(4) + ROUND * random.below(8);
+        Self::placed(random.next(), block, count)
+    }
+    fn own_call(&mut self, random: &mut Random, count: &mut Count) {
+        let n = random.of(&[0, 1, 2, 3, ROUND, ROUND + 1, 5 * ROUND + 2]);
+        let jumps = unsafe { oracle_xoshiro_jump_blocks(&mut self.s, n) };
+        self.rust.jump_blocks(n);
+        count.others += 1;
+        self.check(jumps == n.wrapping_mul(8), || format!("jump_blocks({n}), {jumps} jumps"), count);
+    }
+}
+
+// ---- Philox
+
+/// Every call is lent the generator's fields first.
+macro_rules! philox {
+    ($($name:ident($($more:ident: $type:ty),*) $(-> $answer:ty)?;)*) => {
+        extern "C" {
+            $(fn $name(
+                key: &mut [u32; 2], stream: &mut u64, counter: &mut u64, waiting: &mut bool, pending: &mut [u64; 8], $($more: $type),*
+            ) $(-> $answer)?;)*
+        }
+    };
+}
+philox! {
+    oracle_philox_new(seed: u64, id: u64);
+    oracle_philox_seek(block: u64);
+    oracle_philox_next_u64x8(words: &mut [u64; 8]);
+    oracle_philox_blocks(words: &mut [[u32; 8]; 4]);
+    oracle_philox_fill_u64(out: *mut u64, n: usize) -> u64;
+    oracle_philox_fill_u32(out: *mut u32, n: usize) -> u64;
+    oracle_philox_fill_f32(out: *mut f32, n: usize) -> u64;
+    oracle_philox_fill_f64(out: *mut f64, n: usize) -> u64;
+    oracle_philox_fill_normal_f32(out: *mut f32, n: usize) -> u64;
+    oracle_philox_fill_normal_f64(out: *mut f64, n: usize) -> u64;
+    oracle_philox_fill_bytes(kind: u64, out: *mut u8, n: usize, draws: &mut u64) -> u64;
+}
+
+struct Philox {
+    key: [u32; 2],
+    stream: u64,
+    counter: u64,
+    waiting: bool,
+    pending: [u64; 8],
+    rust: Philox4x32X8,
+}
+
+impl Philox {
+    fn new(seed: u64, id: u64, count: &mut Count) -> Self {
+        let rust = Philox4x32X8::new(seed, id);
+        let mut g = Philox { key: [7; 2], stream: 7, counter: 7, waiting: true, pending: [7; 8], rust };
+        let Philox { key, stream, counter, waiting, pending, .. } = &mut g;
+        unsafe { oracle_philox_new(key, stream, counter, waiting, pending, seed, id) };
+        count.others += 1;
+        g.check(true, || format!("new({seed}, {id})"), count);
+        g
+    }
+
+    fn seek(&mut self, block: u64, count: &mut Count) {
+        let Philox { key, stream, counter, waiting, pending, rust } = self;
+        unsafe { oracle_philox_seek(key, stream, counter, waiting, pending, block) };
+        rust.seek(block);
+        count.others += 1;
+        self.check(true, || format!("seek({block})"), count);
+    }
+
+    fn blocks(&mut self, count: &mut Count) {
+        let Philox { key, stream, counter, waiting, pending, rust } = self;
+        let mut words = [[7; 8]; 4];
+        unsafe { oracle_philox_blocks(key, stream, counter, waiting, pending, &mut words) };
+        let right = words == rust.blocks();
+        count.others += 1;
+        self.check(right, || "blocks".to_string(), count);
+    }
+}
+
+impl Engine for Philox {
+    type Rust = Philox4x32X8;
+    const NAME: &'static str = "Philox";
+
+    fn rust(&mut self) -> &mut Philox4x32X8 {
+        &mut self.rust
+    }
+    /// The Rust shows all its fields as text alone. Words that don't wait are zeros here and none there.
+    fn same(&self) -> bool {
+        let Philox { key, stream, counter, waiting, pending, rust } = self;
+        let words = waiting.then_some(pending);
+        let ours = format!("Philox4x32X8 {{ key: {key:?}, stream: {stream}, counter: {counter}, pending: {words:?} }}");
+        (*waiting || *pending == [0; 8]) && ours == format!("{rust:?}")
+    }
+
+    fn fill(&mut self, kind: u64, n: usize) -> (Vec<u8>, u64) {
+        let Philox { key, stream, counter, waiting, pending, .. } = self;
+        match kind {
+            1 => ours!(oracle_philox_fill_u64, n, key, stream, counter, waiting, pending),
+            2 => ours!(oracle_philox_fill_u32, n, key, stream, counter, waiting, pending),
+            3 => ours!(oracle_philox_fill_f32, n, key, stream, counter, waiting, pending),
+            4 => ours!(oracle_philox_fill_f64, n, key, stream, counter, waiting, pending),
+            5 => ours!(oracle_philox_fill_normal_f32, n, key, stream, counter, waiting, pending),
+            _ => ours!(oracle_philox_fill_normal_f64, n, key, stream, counter, waiting, pending),
+        }
+    }
+    fn fill_bytes(&mut self, kind: u64, n: usize) -> (Vec<u8>, (u64, u64)) {
+        let Philox { key, stream, counter, waiting, pending, .. } = self;
+        let mut draws = u64::MAX; // so that a number left unwritten shows
+        lent(n, |out| {
+            let (at, n) = (out.as_mut_ptr(), out.len());
+            let refusal = unsafe { oracle_philox_fill_bytes(key, stream, counter, waiting, pending, kind, at, n, &mut draws) };
+            (refusal, draws)
+        })
+    }
+    fn draw(&mut self) -> [u64; 8] {
+        let Philox { key, stream, counter, waiting, pending, .. } = self;
+        let mut words = [7; 8];
+        unsafe { oracle_philox_next_u64x8(key, stream, counter, waiting, pending, &mut words) };
+        words
+    }
+
+    /// Words wait in the second and the fourth. The counter passes 2^64 in the third, and 2^32 in the fourth.
+    fn start(which: u64, count: &mut Count) -> Self {
+        let (seed, id, block) = match which {
+            0 => (0, 0, 0),
+            1 => (42, 7, 0),
+            2 => (u64::MAX, u64::MAX, u64::MAX - 3000),
+            _ => (0x0123_4567_89ab_cdef, 1 << 32, (1 << 32) - 3001),
+        };
+        let mut g = Self::new(seed, id, count);
+        g.seek(block, count);
+        if which % 2 == 1 {
+            g.single(count);
+        }
+        g
+    }
+    fn random_start(random: &mut Random, count: &mut Count) -> Self {
+        let id = random.next() >> random.of(&[0, 40, 63]);
+        Self::new(random.next(), id, count)
+    }
+    fn own_call(&mut self, random: &mut Random, count: &mut Count) {
+        let small = random.below(300);
+        match random.below(6) {
+            0 => self.seek(small, count),
+            1 => self.seek(u64::MAX - small, count),
+            2 => self.seek((random.next() << 32).wrapping_sub(small), count),
+            _ => self.blocks(count),
+        }
+    }
+}
+
+// ---- the runs
+
+/// Our fills draw up to 64 times ahead, which makes 512 elements of some kinds and 1024 of others: every length to somewhat more, and
+/// lengths about multiples of these.
+fn lengths() -> impl Iterator<Item = usize> {
+    (0..=1104).chain(1530..=1542).chain(2030..=2066).chain(4090..=4102)
+}
+
+/// On each start a call of each length, one after another. So each length meets a Philox generator with words that wait, and one without.
+fn every_length<E: Engine>(name: &str, call: impl Fn(&mut E, usize, &mut Count)) -> u64 {
+    let mut count = Count::default();
+    for (which, large) in [(0, 100_003), (1, 1_000_000), (2, 99_992), (3, 65_536)] {
+        let mut g = E::start(which, &mut count);
+        for n in lengths().chain([large]) {
+            call(&mut g, n, &mut count);
+        }
+    }
+    count.report(&format!("{} {name}", E::NAME))
+}
+
+const UNKNOWN: [u64; 8] = [0, 7, 8, 255, 257, (1 << 32) + 1, 1 << 63, u64::MAX];
+
+/// Every small number of bytes for every kind, which some refuse, and for what is no kind.
+fn refusals<E: Engine>() -> u64 {
+    let mut count = Count::default();
+    let mut g = E::start(1, &mut count);
+    for n in 0..=300 {
+        for number in KINDS.iter().map(|kind| kind.number).chain(UNKNOWN) {
+            g.bytes(number, n, &mut count);
+        }
+    }
+    count.report(&format!("{} fill_bytes of any length and kind", E::NAME))
+}
+
+fn random_length(random: &mut Random) -> usize {
+    let n = match random.below(4) {
+        0 | 1 => random.below(70),
+        2 => random.below(1100),
+        _ => (8 * random.below(280)).saturating_add_signed(random.below(5) as i64 - 2),
+    };
+    n as usize
+}
+
+/// A list of forty calls on one generator, or as many as agree.
+fn list<E: Engine>(random: &mut Random, count: &mut Count) {
+    let before = count.differences;
+    let mut g = E::random_start(random, count);
+    for _ in 0..40 {
+        let n = random_length(random);
+        let kind = &KINDS[random.below(6) as usize];
+        match random.below(10) {
+            0..=2 => g.typed(kind, n, count),
+            3 | 4 => g.bytes(kind.number, n * kind.width, count),
+            5 => g.bytes(kind.number, n, count),
+            6 => g.bytes(random.of(&UNKNOWN), n, count),
+            7 => g.single(count),
+            _ => g.own_call(random, count),
+        }
+        if count.differences != before {
+            return;
+        }
+    }
+}
+
+fn run<E: Engine>(lists: u64, random: &mut Random) -> u64 {
+    let mut differences = 0;
+    for kind in &KINDS {
+        differences += every_length::<E>(kind.name, |g, n, count| g.typed(kind, n, count));
+    }
+    for kind in &KINDS {
+        let name = format!("fill_bytes of kind {}", kind.number);
+        differences += every_length::<E>(&name, |g, n, count| g.bytes(kind.number, n * kind.width, count));
+    }
+    differences += refusals::<E>();
+    let mut count = Count::default();
+    for _ in 0..lists {
+        list::<E>(random, &mut count);
+    }
+    differences + count.report(&format!("{}, {lists} lists of mixed calls", E::NAME))
+}
+
+fn main() {
+    let lists = std::env::args().nth(1).and_then(|n| n.parse().ok()).expect("how many lists of mixed calls an engine");
+    let random = &mut Random(20_260_102);
+    let differences = run::<Xoshiro>(lists, random) + run::<Philox>(lists, random);
+    std::process::exit(i32::from(differences != 0));
+}
