@@ -5,5 +5,5 @@ pub mod Buffered
 pub mod Sounds
 pub mod Rounding
 pub mod Bytes
-pub mod Refusals
+pub mod Handed
 pub mod Theorems

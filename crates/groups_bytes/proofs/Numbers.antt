@@ -17,30 +17,10 @@ use Rattle.units.specs.Unit.{unit, oneMinusUnit}
 use Rattle.fills.specs.Buffer.{bytesKind, groupsAhead, drawsAhead, drawOf, storedGroups}
 use Rattle.fills.specs.Fill.{roundUp}
 use Rattle.fills.specs.FillBytes.{bytesOf, refusalOf}
-use Rattle.fills.specs.Kinds.{lows, highs, AnyKind, kinds, kindAt, of, u64s, u32s, f32s, f64s, normalsOf, normalF32s, normalF64s}
+use Rattle.fills.specs.Kinds.{lows, highs, AnyKind, kinds, kindAt, of, u64s, f32s, normalsOf, normalF32s, normalF64s}
 use Rattle.fills.proofs.Buffered.{Grouping, group-more}
 
--- kinds 2 to 6, and kind 1 for every other number
-pub is-2 : (k : ℕ) → k ≡ 2 → kindAt k ≡ of u32s
-unfolding kindAt
-is-2 k e = ap kindAt e
-
-pub is-3 : (k : ℕ) → k ≡ 3 → kindAt k ≡ of f32s
-unfolding kindAt
-is-3 k e = ap kindAt e
-
-is-4 : (k : ℕ) → k ≡ 4 → kindAt k ≡ of f64s
-unfolding kindAt
-is-4 k e = ap kindAt e
-
-pub is-5 : (k : ℕ) → k ≡ 5 → kindAt k ≡ of normalF32s
-unfolding kindAt
-is-5 k e = ap kindAt e
-
-is-6 : (k : ℕ) → k ≡ 6 → kindAt k ≡ of normalF64s
-unfolding kindAt
-is-6 k e = ap kindAt e
-
+-- kind 1 stands for the numbers that are no kind's
 past-6 : (k : ℕ) → kindAt (suc (suc (suc (suc (suc (suc (suc k))))))) ≡ of u64s
 unfolding kindAt
 past-6 k = let e : suc (suc (suc (suc (suc (suc (suc k)))))) - 1 ≡ suc (suc (suc (suc (suc (suc k))))) = omega arith in ap (λ (n : ℕ). getD kinds n (of u64s)) e
@@ -101,23 +81,27 @@ bytesAt K w = bytesKind (K .kind) .group (λ _. w)
 
 module _ (k : ℕ) (w : List ℕ) where
   pub group-2 : {v lo hi : List ℕ} → k ≡ 2 → v ≡ flat (leBytes 4) (lo ++ hi) → lo ≡ lows w → hi ≡ highs w → v ≡ bytesKind (kindAt k .kind) .group (λ _. w)
-  group-2 e p a b = p ∙ (λ i. flat (leBytes 4) (a i ++ b i)) ∙ sym (ap (λ (K : AnyKind). bytesAt K w) (is-2 k e))
+  unfolding kindAt
+  group-2 e p a b = p ∙ (λ i. flat (leBytes 4) (a i ++ b i)) ∙ sym (ap (λ (K : AnyKind). bytesAt K w) (ap kindAt e))
 
   pub group-3 : {v lo hi : List ℕ} → k ≡ 3 → v ≡ flat (leBytes 4) (lo ++ hi) → lo ≡ map (toBits binary32) (map (unit binary32) (lows w)) → hi ≡ map (toBits binary32) (map (unit binary32) (highs w))
       → v ≡ bytesKind (kindAt k .kind) .group (λ _. w)
+  unfolding kindAt
   group-3 e p a b =
       p ∙ (λ i. flat (leBytes 4) (a i ++ b i))
       ∙ bits-of 4 (toBits binary32) (map (unit binary32) (lows w)) (map (unit binary32) (highs w))
       ∙ ap (flat (bytesOf f32s)) (sym (map-append (unit binary32) (lows w) (highs w)))
-      ∙ sym (ap (λ (K : AnyKind). bytesAt K w) (is-3 k e))
+      ∙ sym (ap (λ (K : AnyKind). bytesAt K w) (ap kindAt e))
 
   pub group-4 : {r : List ℕ} → k ≡ 4 → r ≡ map (toBits binary64) (map (unit binary64) w) → flat (leBytes 8) r ≡ bytesKind (kindAt k .kind) .group (λ _. w)
-  group-4 e a = ap (flat (leBytes 8)) a ∙ flat-map (leBytes 8) (toBits binary64) (map (unit binary64) w) ∙ sym (ap (λ (K : AnyKind). bytesAt K w) (is-4 k e))
+  unfolding kindAt
+  group-4 e a = ap (flat (leBytes 8)) a ∙ flat-map (leBytes 8) (toBits binary64) (map (unit binary64) w) ∙ sym (ap (λ (K : AnyKind). bytesAt K w) (ap kindAt e))
 
   pub group-5 : {v lo hi : List ℕ} (c s : List Float) → k ≡ 5 → v ≡ flat (leBytes 4) (lo ++ hi) → lo ≡ map (toBits binary32) c → hi ≡ map (toBits binary32) s
       → c ++ s ≡ normalsOf binary32 (lows w) (highs w) → v ≡ bytesKind (kindAt k .kind) .group (λ _. w)
+  unfolding kindAt
   group-5 {v} {lo} {hi} c s e p a b n =
-      p ∙ (λ i. flat (leBytes 4) (a i ++ b i)) ∙ bits-of 4 (toBits binary32) c s ∙ ap (flat (bytesOf normalF32s)) n ∙ sym (ap (λ (K : AnyKind). bytesAt K w) (is-5 k e))
+      p ∙ (λ i. flat (leBytes 4) (a i ++ b i)) ∙ bits-of 4 (toBits binary32) c s ∙ ap (flat (bytesOf normalF32s)) n ∙ sym (ap (λ (K : AnyKind). bytesAt K w) (ap kindAt e))
 
   pub group-1 : (k ≡ 2 → ⊥) → (k ≡ 3 → ⊥) → (k ≡ 4 → ⊥) → (k ≡ 5 → ⊥) → (k ≡ 6 → ⊥) → flat (leBytes 8) w ≡ bytesKind (kindAt k .kind) .group (λ _. w)
   group-1 a b c d e = sym (ap (λ (K : AnyKind). bytesAt K w) (is-other k a b c d e))
@@ -133,14 +117,16 @@ group-6 a b {c} {s} p q =
 
 pub double-stored : (k : ℕ) → k ≡ 6 → (b l : List ℕ) (at : ℕ)
     → storedGroups (bytesKind normalF64s) b l at (groupsAhead (bytesKind normalF64s) (length l - at)) ≡ storedGroups (bytesKind (kindAt k .kind)) b l at (groupsAhead (bytesKind (kindAt k .kind)) (length l - at))
-double-stored k e b l at = ap (λ (K : AnyKind). storedGroups (bytesKind (K .kind)) b l at (groupsAhead (bytesKind (K .kind)) (length l - at))) (sym (is-6 k e))
+unfolding kindAt
+double-stored k e b l at = ap (λ (K : AnyKind). storedGroups (bytesKind (K .kind)) b l at (groupsAhead (bytesKind (K .kind)) (length l - at))) (sym (ap kindAt e))
 
 pub double-draws : (k : ℕ) → k ≡ 6 → (n : ℕ) → drawsAhead (bytesKind (kindAt k .kind)) n ≡ 2 * min (roundUp n 128) 32
-double-draws k e n = ap (λ (K : AnyKind). drawsAhead (bytesKind (K .kind)) n) (is-6 k e)
+unfolding kindAt
+double-draws k e n = ap (λ (K : AnyKind). drawsAhead (bytesKind (K .kind)) n) (ap kindAt e)
 
 -- ---- an element's bytes, by the kind's number
-pub width-4 : {K : AnyKind} (k : ℕ) → kindAt k ≡ K → K .kind .width ≡ 4 → 4 ≡ kindAt k .kind .width
-width-4 k e q = sym q ∙ sym (ap (λ (L : AnyKind). L .kind .width) e)
+pub width-4 : (k n : ℕ) → k ≡ n → kindAt n .kind .width ≡ 4 → 4 ≡ kindAt k .kind .width
+width-4 k n e q = sym (ap (λ (m : ℕ). kindAt m .kind .width) e ∙ q)
 
 -- kinds 1, 4 and 6, and numbers that are no kind's: 8
 pub width-8 : (k : ℕ) → (k ≡ 2 → ⊥) → (k ≡ 3 → ⊥) → (k ≡ 5 → ⊥) → 8 ≡ kindAt k .kind .width
@@ -185,11 +171,12 @@ ahead-of : (K : AnyKind) (n m p d : ℕ) → bytesKind (K .kind) .places ≡ p �
 ahead-of K n m p d ep ed em = ((λ i. min (roundUp n (ep i)) (64 / ed i) * ep i), ep)
 
 pub ahead : (k n m : ℕ) → m ≡ drawsAhead (bytesKind (kindAt k .kind)) n → Ahead k n m
+unfolding kindAt
 ahead k n m e = elim (ℕ-discrete k 6) [ yes y ↦ double y | no h ↦ one h ]
   where
     double : k ≡ 6 → Ahead k n m
     double y =
-        let a = ahead-of (kindAt k) n m 128 2 (ap (λ (K : AnyKind). bytesKind (K .kind) .places) (is-6 k y)) (ap (λ (K : AnyKind). K .kind .draws) (is-6 k y)) (e ∙ double-draws k y n) in
+        let a = ahead-of (kindAt k) n m 128 2 (ap (λ (K : AnyKind). bytesKind (K .kind) .places) (ap kindAt y)) (ap (λ (K : AnyKind). K .kind .draws) (ap kindAt y)) (e ∙ double-draws k y n) in
         let e′ : m ≡ 2 * min (roundUp n 128) 32 = e ∙ double-draws k y n in
         record { few = omega (arith, e′); bytes = a .0 ∙ omega (arith, e′); room = omega (arith, a .0, a .1, e′); near = omega (arith, e′); some = λ s. omega (arith, e′) }
 

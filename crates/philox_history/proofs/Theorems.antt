@@ -1,14 +1,13 @@
 -- The claims of specs/History.antt. Assumes nothing.
 use mathlib.Core.List.{List, _∷_}
-use mathlib.Core.Path.{_≡_, refl, sym, ap, ap₂, _∙_, fun-ext}
+use mathlib.Core.Path.{_≡_, refl, sym, ap, ap₂, _∙_}
 use Prim.Native.Nat.{ℕ, zero, suc, _+_}
 use native.Mathlib.Omega.{arith}
 use lib.ListN.{length}
 use Rattle.base.specs.Iterate.{iterate}
-use Rattle.base.specs.Table.{table}
-use Rattle.fills.specs.Fill.{drawsFor, element}
+use Rattle.fills.specs.Fill.{drawsFor}
 use Rattle.fills.specs.FillBytes.{refusalOf, bytesDraws, unless}
-use Rattle.fills.proofs.Refusals.{accepted-writes, refused-kept, refused-stays, draws-made, draws-reported}
+use Rattle.fills.proofs.Handed.{right-fill, right-bytes, draws-made, draws-reported}
 use Rattle.philox_x8.specs.Machine.{wordsOf, nextOf, drawn, grouped, sought}
 use Rattle.philox_x8.specs.declared.Blocks.{Blocks}
 use Rattle.philox_x8.specs.declared.Draw.{Draw}
@@ -55,15 +54,8 @@ module _ (s₀ : Philox4x32X8) (calls : List Call) {s : Philox4x32X8} (e : s ≡
         word3 = ap (λ (x : Blocks). x .w3) q;
       }
   right (seek n u64 r) h = ap (λ (x : Philox4x32X8). x .counter) h
-  right (fill K before after r) h = (h .count, h .writes ∙ ap (λ (W : ℕ → List ℕ). table (length before) (element K W)) (fun-ext drawn-words))
-  right (bytes k before after r) h =
-      record {
-        refuses = h .refuses;
-        writes = accepted-writes h _ drawn-words;
-        count = draws-made h;
-        kept = refused-kept h;
-        stays = refused-stays h;
-      }
+  right (fill K before after r) h = right-fill _ drawn-words h
+  right (bytes k before after r) h = right-bytes h _ drawn-words
 
   -- what the call reported is what is counted
   counts : (c : Call) → Step s c → reported calls ≡ tally calls .d → reported (c ∷ calls) ≡ tally (c ∷ calls) .d

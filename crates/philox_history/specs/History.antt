@@ -7,9 +7,9 @@ use Prim.Native.Nat.{ℕ, _+_, _*_, _%_, _^_}
 use lib.Dec.{eqb}
 use lib.ListN.{length}
 use Rattle.base.specs.Iterate.{iterate}
-use Rattle.base.specs.Table.{table}
-use Rattle.fills.specs.Fill.{roundUp, drawsFor, element}
-use Rattle.fills.specs.FillBytes.{refusalOf, bytesWritten, bytesDraws, unless}
+use Rattle.fills.specs.Fill.{roundUp, drawsFor}
+use Rattle.fills.specs.FillBytes.{refusalOf, bytesDraws, unless}
+use Rattle.fills.specs.Handed.{RightFill, RightBytes}
 use Rattle.philox_x8.specs.Machine.{groupAt, lowerAt, upperAt, none8, fresh}
 use Rattle.philox_x8.specs.declared.Blocks.{Blocks}
 use Rattle.philox_x8.specs.declared.Philox4x32X8.{Philox4x32X8}
@@ -72,22 +72,13 @@ pub record RightGroup (s₀ : Philox4x32X8) (t : Tally) (r : Blocks) : Type 0 wh
   pub word2 : r .w2 ≡ groupAt s₀ (counterOf t) .w2
   pub word3 : r .w3 ≡ groupAt s₀ (counterOf t) .w3
 
--- a byte fill: its refusal is the one that the conditions give; accepted, the slice holds the bytes of the typed fill and the draws are the
--- table's; refused, there are none, and the slice and the generator s are as they were
-pub record RightBytes (s₀ : Philox4x32X8) (t : Tally) (k : ℕ) (before after : List ℕ) (s : Philox4x32X8) (refusal draws : ℕ) (s′ : Philox4x32X8) : Type 0 where
-  pub refuses : refusal ≡ refusalOf k (length before)
-  pub writes : refusal ≡ 0 → after ≡ bytesWritten k (λ m. wordsAt s₀ (iterate oneDraw m t)) (length before)
-  pub count : draws ≡ unless (refusalOf k (length before)) (bytesDraws k (length before)) 0
-  pub kept : (refusal ≡ 0 → ⊥) → after ≡ before
-  pub stays : (refusal ≡ 0 → ⊥) → s′ ≡ s
-
 -- what a call on the generator s handed out is right, where the tally before it is t; draw m of a fill has m draws more
 abbrev pub Right : Philox4x32X8 → Tally → Philox4x32X8 → Call → Type 0
 Right s₀ t s (draw r) = r .words ≡ wordsAt s₀ t
 Right s₀ t s (group r) = RightGroup s₀ t r
 Right s₀ t s (seek n u64 r) = r .counter ≡ n
-Right s₀ t s (fill K before after r) = (r .draws ≡ drawsFor K (length before)) × (after ≡ table (length before) (element K (λ m. wordsAt s₀ (iterate oneDraw m t))))
-Right s₀ t s (bytes k before after r) = RightBytes s₀ t k before after s (r .refusal) (r .draws) (r .rng)
+Right s₀ t s (fill K before after r) = RightFill (λ m. wordsAt s₀ (iterate oneDraw m t)) K before after (r .draws)
+Right s₀ t s (bytes k before after r) = RightBytes (λ m. wordsAt s₀ (iterate oneDraw m t)) k before after s (r .refusal) (r .draws) (r .rng)
 
 abbrev pub AllRight : Philox4x32X8 → List Call → Type 0
 AllRight s₀ [] = Unit {0}

@@ -1,14 +1,11 @@
 -- The claim of specs/History.antt. Assumes nothing.
-use mathlib.Core.List.{List, [], _∷_}
-use mathlib.Core.Path.{_≡_, refl, sym, ap, _∙_, fun-ext}
+use mathlib.Core.List.{[], _∷_}
+use mathlib.Core.Path.{_≡_, refl, sym, ap, _∙_}
 use Prim.Native.Nat.{ℕ, _+_}
 use native.Mathlib.Nat.{add-zero}
 use native.Mathlib.Omega.{arith}
-use lib.ListN.{length}
 use Rattle.base.specs.Iterate.{iterate}
-use Rattle.base.specs.Table.{table}
-use Rattle.fills.specs.Fill.{element}
-use Rattle.fills.proofs.Refusals.{accepted-writes, refused-kept, refused-stays, draws-made, draws-reported}
+use Rattle.fills.proofs.Handed.{right-fill, right-bytes, draws-made, draws-reported}
 use Rattle.xoshiro.specs.Xoshiro256pp.{State, seeded}
 use Rattle.xoshiro_x8.specs.Calls.{drawn, blockJumps, placed, movedBlocks}
 use Rattle.xoshiro_x8.specs.declared.Placed.{Placed}
@@ -38,21 +35,14 @@ one {d = d} {j = j} a (fill K before after r) h =
     record {
       draws = h .count;
       jumps = refl;
-      right = (h .count, h .writes ∙ ap (λ (W : ℕ → List ℕ). table (length before) (element K W)) (fun-ext (λ m. words-at (at-draws m a))));
+      right = right-fill _ (λ m. words-at (at-draws m a)) h;
       at = at-same (at-draws (r .draws) a) (ap (λ (n : ℕ). d + n) (h .count)) (sym (add-zero j)) (h .state);
     }
 one {d = d} {j = j} a (bytes k before after r) h =
     record {
       draws = draws-reported h ∙ draws-made h;
       jumps = refl;
-      right =
-          record {
-            refuses = h .refuses;
-            writes = accepted-writes h _ (λ m. words-at (at-draws m a));
-            count = draws-made h;
-            kept = refused-kept h;
-            stays = refused-stays h;
-          };
+      right = right-bytes h _ (λ m. words-at (at-draws m a));
       at = at-same (at-draws (r .draws) a) (ap (λ (n : ℕ). d + n) (draws-made h)) (sym (add-zero j)) (h .state);
     }
 one {d = d} a (move n r) h =

@@ -4,8 +4,9 @@ use mathlib.Core.Path.{_≡_}
 use Prim.Native.Nat.{ℕ, _+_, _<_}
 use lib.ListN.{length}
 use Rattle.base.specs.Table.{table}
-use Rattle.fills.specs.Fill.{drawsFor, element}
-use Rattle.fills.specs.FillBytes.{refusalOf, bytesWritten, bytesDraws, unless}
+use Rattle.fills.specs.Fill.{drawsFor}
+use Rattle.fills.specs.FillBytes.{refusalOf, bytesDraws, unless}
+use Rattle.fills.specs.Handed.{RightFill, RightBytes}
 use Rattle.xoshiro.specs.Xoshiro256pp.{State, output, steps, jumps, seeded}
 use Rattle.xoshiro_x8.specs.Lanes.{laneOf}
 use Rattle.xoshiro_x8.specs.Calls.{blockJumps, placed}
@@ -55,20 +56,11 @@ J b calls = blockJumps b + total jumpsCounted calls
 unfoldable pub wordsAt : State → ℕ → ℕ → List ℕ
 wordsAt s d j = table 8 (λ i. output (steps d (jumps (j + i) s)))
 
--- a byte fill: its refusal is the one that the conditions give; accepted, the slice holds the bytes of the typed fill and the draws are the
--- table's; refused, there are none, and the slice and the generator g are as they were
-pub record RightBytes (s : State) (d j : ℕ) (k : ℕ) (before after : List ℕ) (g : Xoshiro256ppX8) (refusal draws : ℕ) (g′ : Xoshiro256ppX8) : Type 0 where
-  pub refuses : refusal ≡ refusalOf k (length before)
-  pub writes : refusal ≡ 0 → after ≡ bytesWritten k (λ m. wordsAt s (d + m) j) (length before)
-  pub count : draws ≡ unless (refusalOf k (length before)) (bytesDraws k (length before)) 0
-  pub kept : (refusal ≡ 0 → ⊥) → after ≡ before
-  pub stays : (refusal ≡ 0 → ⊥) → g′ ≡ g
-
 -- what a call on the generator g handed out is right, where D and J before it are d and j; draw m of a fill has m more in its D
 abbrev pub Right : State → ℕ → ℕ → Xoshiro256ppX8 → Call → Type 0
 Right s d j g (draw r) = r .words ≡ wordsAt s d j
-Right s d j g (fill K before after r) = (r .draws ≡ drawsFor K (length before)) × (after ≡ table (length before) (element K (λ m. wordsAt s (d + m) j)))
-Right s d j g (bytes k before after r) = RightBytes s d j k before after g (r .refusal) (r .draws) (r .rng)
+Right s d j g (fill K before after r) = RightFill (λ m. wordsAt s (d + m) j) K before after (r .draws)
+Right s d j g (bytes k before after r) = RightBytes (λ m. wordsAt s (d + m) j) k before after g (r .refusal) (r .draws) (r .rng)
 Right s d j g (move n r) = r .jumps ≡ blockJumps n
 
 abbrev pub AllRight : ℕ → ℕ → Xoshiro256ppX8 → List Call → Type 0

@@ -1,18 +1,22 @@
 -- `groups_bytes::width` meets its contract.
-use Rattle.groups_bytes.proofs.Numbers.{is-2, is-3, is-5, width-4, width-8}
+use Rattle.fills.specs.Kinds.{kindAt}
+use Rattle.groups_bytes.proofs.Numbers.{width-4, width-8}
 use lib.Dec.{lit<}
 use mathlib.Core.Path.{refl}
 use Rattle.groups_bytes.proofs.width.Statement.{statement}
 use Rattle.groups_bytes.proofs.width.Tie as tie
 
 returns : tie.Need-returns
-returns c = (width-4 _ (is-2 _ (c .if1 .taken)) refl, lit< tt)
+unfolding kindAt
+returns c = (width-4 _ 2 (c .if1 .taken) refl, lit< tt)
 
 returns-2 : tie.Need-returns-2
-returns-2 c = (width-4 _ (is-3 _ (c .if2 .taken)) refl, lit< tt)
+unfolding kindAt
+returns-2 c = (width-4 _ 3 (c .if2 .taken) refl, lit< tt)
 
 returns-3 : tie.Need-returns-3
-returns-3 c = (width-4 _ (is-5 _ (c .if3 .taken)) refl, lit< tt)
+unfolding kindAt
+returns-3 c = (width-4 _ 5 (c .if3 .taken) refl, lit< tt)
 
 returns-4 : tie.Need-returns-4
 returns-4 c = (width-8 _ (c .before .before .if1 .left) (c .before .if2 .left) (c .if3 .left), lit< tt)
