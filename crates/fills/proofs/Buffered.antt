@@ -1,7 +1,7 @@
 -- A fill by way of a buffer: words are drawn into the buffer by a fill of kind 1, the buffer is cut into draws, and the draws are made into
 -- groups. For any kind and engine. Assumes nothing.
 use mathlib.Core.Path.{_≡_, refl, sym, ap, _∙_}
-use mathlib.Core.List.{List, _++_}
+use mathlib.Core.List.{List, [], _∷_, _++_}
 use Prim.Native.Nat.{ℕ, zero, suc, _+_, _*_, _/_, _%_, _<_, _≤_}
 use native.Mathlib.Nat.{add-zero, mul-suc, suc-mul, zero-mul, mul-zero}
 use native.Mathlib.Numerals.{add-one}
@@ -19,15 +19,20 @@ use Rattle.fills.specs.Kinds.{u64s}
 use Rattle.fills.specs.Buffer.{drawOf, Drawn, storedGroups}
 use Rattle.fills.proofs.Filling.{Eights, Filling, more, same-place, filled-long}
 
+drop-past : {A : Type 0} (xs ys : List A) → drop (length xs) (xs ++ ys) ≡ ys
+drop-past [] ys = refl
+drop-past (x ∷ xs) ys = drop-past xs ys
+
 -- a fill of kind 1 of the first n = m * 8 places of a buffer makes it hold m draws
 pub drawn-filled : {G : Type 0} {words : G → List ℕ} {next : G → G} {rng rng′ : G} {after : List ℕ} {draws : ℕ} (buf : List ℕ) (n m : ℕ) → Eights words
-    → Filled words next u64s rng (take n buf) after draws rng′ → n ≡ m * 8 → n ≤ length buf → Drawn words next rng m (after ++ drop n buf) draws rng′
+    → Filled words next u64s rng (take n buf) after draws rng′ → n ≡ m * 8 → n ≤ length buf → Drawn words next rng m buf (after ++ drop n buf) draws rng′
 unfolding drawOf
 drawn-filled {G} {words} {next} {rng} {rng′} {after} {draws} buf n m eights F en hn =
     record {
       held = λ i h.
           ext-getD 0 (table 8 (λ r. getD (after ++ drop n buf) (i * 8 + r) 0)) (W i) (rows i ∙ sym (eights (iterate next i rng)))
           (λ r b. let b′ : r < 8 = omega (arith, rows i) in getD-table 8 (λ s. getD (after ++ drop n buf) (i * 8 + s) 0) r 0 b′ ∙ place i r h b′);
+      kept = ap (λ (k : ℕ). drop k (after ++ drop n buf)) (sym long) ∙ drop-past after (drop n buf) ∙ ap (λ (k : ℕ). drop k buf) en;
       count = made;
       state = F .state ∙ ap (λ (k : ℕ). iterate next k rng) made;
     }
@@ -40,6 +45,9 @@ drawn-filled {G} {words} {next} {rng} {rng′} {after} {draws} buf n m eights F 
 
     len : length (take n buf) ≡ m * 8
     len = length-take-le n buf hn ∙ en
+
+    long : length after ≡ m * 8
+    long = filled-long F ∙ len
 
     made : draws ≡ m
     made = F .count ∙ omega (arith, len)
@@ -56,7 +64,7 @@ drawn-filled {G} {words} {next} {rng} {rng′} {after} {draws} buf n m eights F 
         ∙ ap (λ (k : ℕ). getD (W i) k 0) e′
 
 -- the same draws, counted otherwise
-pub drawn-same : {G : Type 0} {words : G → List ℕ} {next : G → G} {g g′ : G} {b : List ℕ} {m n draws : ℕ} → Drawn words next g m b draws g′ → m ≡ n → Drawn words next g n b draws g′
+pub drawn-same : {G : Type 0} {words : G → List ℕ} {next : G → G} {g g′ : G} {a b : List ℕ} {m n draws : ℕ} → Drawn words next g m a b draws g′ → m ≡ n → Drawn words next g n a b draws g′
 drawn-same D e = rw (← e) D
 
 -- ---- q groups of a buffer, stored one after another
@@ -83,10 +91,10 @@ module _ {G A : Type 0} {words : G → List ℕ} {next : G → G} {K : Kind A} {
       rw (← er) (same-place Q ea eg)
 
   -- one turn of a buffered fill: the buffer holds the draws of q groups, and they are stored
-  pub more-buffered : {out out′ : List A} {at draws dr m : ℕ} {rng rng′ : G} {b : List ℕ} (q : ℕ) → Filling words next K g old out at draws rng
-      → Drawn words next rng m b dr rng′ → m ≡ K .draws * q → at + q * K .places < length old + K .places → out′ ≡ storedGroups K b out at q
+  pub more-buffered : {out out′ : List A} {at draws dr m : ℕ} {rng rng′ : G} {a b : List ℕ} (q : ℕ) → Filling words next K g old out at draws rng
+      → Drawn words next rng m a b dr rng′ → m ≡ K .draws * q → at + q * K .places < length old + K .places → out′ ≡ storedGroups K b out at q
       → Filling words next K g old out′ (at + q * K .places) (draws + dr) rng′
-  more-buffered {out} {out′} {at} {draws} {dr} {m} {rng} {rng′} {b} q F B em h eo =
+  more-buffered {out} {out′} {at} {draws} {dr} {m} {rng} {rng′} {a} {b} q F B em h eo =
       let ed : dr ≡ K .draws * q = B .count ∙ em in
       let er : rng′ ≡ iterate next (K .draws * q) rng = B .state ∙ ap (λ (n : ℕ). iterate next n rng) em in
       rw (eo, ed, er) (more-groups b q F (λ i l. B .held i (omega (arith, em))) h)

@@ -2,7 +2,7 @@
 use mathlib.Core.List.{List}
 use mathlib.Core.Path.{_≡_}
 use Prim.Native.Nat.{ℕ, zero, suc, _+_, _*_, _/_, _<_, min}
-use lib.ListN.{getD}
+use lib.ListN.{getD, drop}
 use Rattle.base.specs.Bytes.{flat}
 use Rattle.base.specs.Iterate.{iterate}
 use Rattle.base.specs.Stored.{stored}
@@ -14,9 +14,11 @@ use Rattle.fills.specs.FillBytes.{bytesOf}
 unfoldable pub drawOf : List ℕ → ℕ → List ℕ
 drawOf b i = table 8 (λ r. getD b (i * 8 + r) 0)
 
--- m draws from g on stand in the buffer b; g′ is the generator after them
-pub record Drawn {G : Type 0} (words : G → List ℕ) (next : G → G) (g : G) (m : ℕ) (b : List ℕ) (draws : ℕ) (g′ : G) : Type 0 where
-  pub held : (i : ℕ) → i < m → drawOf b i ≡ words (iterate next i g)
+-- the buffer `before` became `after`: m draws from g on stand in its first places, and the places after them are as they were; g′ is the
+-- generator after the draws
+pub record Drawn {G : Type 0} (words : G → List ℕ) (next : G → G) (g : G) (m : ℕ) (before after : List ℕ) (draws : ℕ) (g′ : G) : Type 0 where
+  pub held : (i : ℕ) → i < m → drawOf after i ≡ words (iterate next i g)
+  pub kept : drop (m * 8) after ≡ drop (m * 8) before
   pub count : draws ≡ m
   pub state : g′ ≡ iterate next m g
 

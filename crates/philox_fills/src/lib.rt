@@ -32,10 +32,10 @@ pub fn fill_u64(g: Philox4x32X8, out: &mut [u64]) -> Fill
     Fill { draws, rng }
 }
 
-// The words of `m` draws, in the first places of `b`.
+// The words of `m` draws, in the first places of `b`. The places after them stay.
 fn fill_first(g: Philox4x32X8, b: &mut [u64], m: usize) -> Fill
     requires { ⌜ m * 8 ≤ length (now b) ⌝ }
-    ensures { λ r. ⌜ Drawn wordsOf nextOf g m (now (b .exit)) (r .draws) (r .rng) ⌝ }
+    ensures { λ r. ⌜ Drawn wordsOf nextOf g m (now (b .entry)) (now (b .exit)) (r .draws) (r .rng) ⌝ }
 {
     let n = m * 8;
     fill_u64(g, &mut b[..n])
@@ -44,7 +44,7 @@ fn fill_first(g: Philox4x32X8, b: &mut [u64], m: usize) -> Fill
 // The words of `m` draws, at most 64, in a buffer. The other kinds make their groups of it: drawing ahead is faster than turning each draw
 // into elements at once.
 pub fn fill_buffer(g: Philox4x32X8, b: &mut [u64; 512], m: usize) -> Fill
-    ensures { λ r. ⌜ Drawn wordsOf nextOf g (min 64 m) (now (b .exit)) (r .draws) (r .rng) ⌝ }
+    ensures { λ r. ⌜ Drawn wordsOf nextOf g (min 64 m) (now (b .entry)) (now (b .exit)) (r .draws) (r .rng) ⌝ }
 {
     fill_first(g, b, groups::room(64, 0, m))
 }
