@@ -1,13 +1,70 @@
-# make test   proves every crate, tries the edits that must be refused, runs the programs and the other tests.
-#             The last line is 'N passed, 0 failed'.
+# make test      proves every crate, tries the edits that must be refused, runs the programs and the other tests.
+#                The last line is 'N passed, 0 failed'.
+# make lib       proves the library and puts libgirderpeach.a, libgirderpeach.so and girderpeach.pc in target/lib.
+# make install   puts these and the header below PREFIX.
+# make example   builds target/example/paths from examples/paths.c.
 
 # Where the Rust source of tpt-simd-rng lies (tests/oracle). Without it those comparisons are skipped, and said to be.
 RUST_SRC ?= ../shared/docs/src
 
-.PHONY: test clean
+PREFIX = /usr/local
+DESTDIR =
+
+VERSION = 0.1.0
+# Programs that were linked with the shared object ask for it by this name. It changes when a call changes.
+SONAME = libgirderpeach.so.0
+
+# The archive that the prover writes, and where `make lib` puts what it makes of it.
+ARCHIVE = target/staticlib/libgirderpeach.a
+LIB = target/lib
+
+PROVED := crates.txt $(shell find crates -name '*.rt' -o -name '*.antt')
+
+# An archive of which the proof failed does not stay.
+.DELETE_ON_ERROR:
+
+.PHONY: test lib install example clean $(LIB)/girderpeach.pc
 
 test:
 	@RUST_SRC='$(RUST_SRC)' tests/run
+
+lib: $(LIB)/libgirderpeach.a $(LIB)/libgirderpeach.so $(LIB)/girderpeach.pc
+
+# Proved again only when a file changed: it takes the better part of a minute.
+target/staticlib/lib%.a: $(PROVED)
+	rt staticlib $*
+
+$(LIB)/libgirderpeach.a: $(ARCHIVE)
+	@mkdir -p $(LIB)
+	cp $< $@
+
+# Only the calls of the header are visible from outside.
+$(LIB)/$(SONAME): $(LIB)/libgirderpeach.a
+	echo '{ global: gp_*; local: *; };' | \
+	    $(CC) -shared -o $@ -Wl,-soname,$(SONAME),--version-script,/dev/stdin,-z,defs,--whole-archive $< -Wl,--no-whole-archive
+
+$(LIB)/libgirderpeach.so: $(LIB)/$(SONAME)
+	ln -sf $(SONAME) $@
+
+# Made each time, because it names PREFIX.
+$(LIB)/girderpeach.pc:
+	@mkdir -p $(LIB)
+	printf '%s\n' 'prefix=$(PREFIX)' 'Name: girderpeach' 'Description: Proved random numbers by seed, block and length' \
+	    'Version: $(VERSION)' 'Cflags: -I$${prefix}/include' 'Libs: -L$${prefix}/lib -lgirderpeach' >$@
+
+install: lib
+	install -d $(DESTDIR)$(PREFIX)/include $(DESTDIR)$(PREFIX)/lib/pkgconfig
+	install -m 644 include/girderpeach.h $(DESTDIR)$(PREFIX)/include
+	install -m 644 $(LIB)/libgirderpeach.a $(DESTDIR)$(PREFIX)/lib
+	install -m 755 $(LIB)/$(SONAME) $(DESTDIR)$(PREFIX)/lib
+	ln -sf $(SONAME) $(DESTDIR)$(PREFIX)/lib/libgirderpeach.so
+	install -m 644 $(LIB)/girderpeach.pc $(DESTDIR)$(PREFIX)/lib/pkgconfig
+
+example: target/example/paths
+
+target/example/paths: examples/paths.c include/girderpeach.h $(LIB)/libgirderpeach.a
+	@mkdir -p $(@D)
+	$(CC) -O2 -Iinclude -o $@ $< $(LIB)/libgirderpeach.a
 
 clean:
 	rm -rf target

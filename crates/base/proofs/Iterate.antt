@@ -27,3 +27,9 @@ iterate-past f g h (suc n) x = h (iterate f n x) ∙ ap f (iterate-past f g h n 
 
 pub iterate-commute : {A : Type 0} (f g : A → A) → ((x : A) → g (f x) ≡ f (g x)) → (m n : ℕ) (x : A) → iterate g m (iterate f n x) ≡ iterate f n (iterate g m x)
 iterate-commute f g h m n x = sym (iterate-past g (iterate f n) (λ y. sym (iterate-past f g h n y)) m x)
+
+-- what f keeps, its iterates keep
+pub iterate-keeps : {A : Type 0} (P : A → Type 0) (f : A → A) → ((x : A) → P x → P (f x)) → (n : ℕ) (x : A) → P x → P (iterate f n x)
+unfolding iterate
+iterate-keeps P f h zero x p = p
+iterate-keeps P f h (suc n) x p = h (iterate f n x) (iterate-keeps P f h n x p)

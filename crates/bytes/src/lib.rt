@@ -1,8 +1,9 @@
-// Words as little-endian bytes, stored in a slice.
+// Words as little-endian bytes, stored in a slice and read from one.
+ghost use mathlib.Core.List.{_++_};
 ghost use mathlib.Core.Path.{_≡_};
 ghost use Prim.Native.Nat.{_+_, _-_, _<_, min};
-ghost use lib.ListN.{length};
-ghost use Rattle.base.specs.Bytes.{leBytes, flat};
+ghost use lib.ListN.{length, take, drop};
+ghost use Rattle.base.specs.Bytes.{leBytes, leNat, flat};
 ghost use Rattle.base.specs.Stored.{stored};
 
 // The bytes of a word.
@@ -28,6 +29,13 @@ fn le8(x: u64) -> [u8; 8]
     ]
 }
 
+// Two halves as a word of the same bytes.
+pub fn pair(lo: u32, hi: u32) -> u64
+    ensures { λ r. ⌜ leBytes 8 r ≡ leBytes 4 lo ++ leBytes 4 hi ⌝ }
+{
+    words::join(lo, hi)
+}
+
 // Stores the first `n` of `v` in the places from `at` on.
 fn put8_n(out: &mut [u8], at: usize, v: [u8; 8], n: usize)
     requires { ⌜ n ≡ min (length (now out) - at) 8 ⌝ }
@@ -51,7 +59,14 @@ fn put8(out: &mut [u8], at: usize, v: [u8; 8])
     }
 }
 
-// Stores the bytes of eight words from place `at` on, as far as `out` has places.
+// Stores the bytes of a word from place `at` on, as far as `out` has places.
+pub fn put_word(out: &mut [u8], at: usize, x: u64)
+    ensures { λ _. ⌜ now (out .exit) ≡ stored (now (out .entry)) at (leBytes 8 x) ⌝ }
+{
+    put8(out, at, le8(x));
+}
+
+// The same of eight words, one after another.
 pub fn put_words(out: &mut [u8], at: usize, v: [u64; 8])
     ensures { λ _. ⌜ now (out .exit) ≡ stored (now (out .entry)) at (flat (leBytes 8) v) ⌝ }
 {
@@ -59,6 +74,39 @@ pub fn put_words(out: &mut [u8], at: usize, v: [u64; 8])
         return;
     }
     for i in 0..8 {
-        put8(out, at + i * 8, le8(v[i]));
+        put_word(out, at + i * 8, v[i]);
+    }
+}
+
+fn wide(b: u8) -> u64
+    ensures { λ r. ⌜ (r ≡ b) × (r < 256) ⌝ }
+{
+    b as u64
+}
+
+// The word of the `n` bytes from `at` on.
+fn word_n(s: &[u8], at: usize, n: usize) -> u64
+    requires { ⌜ n ≡ min (length (now s) - at) 8 ⌝ }
+    ensures { λ r. ⌜ r ≡ leNat (take 8 (drop at (now (s .entry)))) ⌝ }
+{
+    let mut x: u64 = 0;
+    let mut i = n;
+    while 0 < i {
+        i -= 1;
+        x = x * 256 + wide(s[at + i]);
+    }
+    x
+}
+
+// The word whose eight bytes stand from `at` on; bytes that `s` doesn't have count as 0.
+pub fn word_at(s: &[u8], at: usize) -> u64
+    ensures { λ r. ⌜ r ≡ leNat (take 8 (drop at (now (s .entry)))) ⌝ }
+{
+    let n = groups::room(s.len(), at, 8);
+    // eight loads that the compiler knows to be eight become one
+    if n == 8 {
+        word_n(s, at, 8)
+    } else {
+        word_n(s, at, n)
     }
 }

@@ -31,26 +31,19 @@ fn bits_f64(x: [f64; 8]) -> [u64; 8]
     out
 }
 
-// Two halves as a word of the same bytes.
-fn pair(lo: u32, hi: u32) -> u64
-    ensures { λ r. ⌜ leBytes 8 r ≡ leBytes 4 lo ++ leBytes 4 hi ⌝ }
-{
-    words::join(lo, hi)
-}
-
 // Sixteen halves as eight words of the same bytes.
 fn paired(a: [u32; 8], b: [u32; 8]) -> [u64; 8]
     ensures { λ r. ⌜ flat (leBytes 8) r ≡ flat (leBytes 4) (a ++ b) ⌝ }
 {
     [
-        pair(a[0], a[1]),
-        pair(a[2], a[3]),
-        pair(a[4], a[5]),
-        pair(a[6], a[7]),
-        pair(b[0], b[1]),
-        pair(b[2], b[3]),
-        pair(b[4], b[5]),
-        pair(b[6], b[7]),
+        bytes::pair(a[0], a[1]),
+        bytes::pair(a[2], a[3]),
+        bytes::pair(a[4], a[5]),
+        bytes::pair(a[6], a[7]),
+        bytes::pair(b[0], b[1]),
+        bytes::pair(b[2], b[3]),
+        bytes::pair(b[4], b[5]),
+        bytes::pair(b[6], b[7]),
     ]
 }
 

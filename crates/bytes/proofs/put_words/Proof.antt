@@ -20,7 +20,7 @@ returns c = stored-out _ _ _ (search needs)
 loop-again : tie.Need-loop-again Inv-loop μ-loop
 loop-again c =
     let p = c .before .before in
-    flat-more (p .before .before .before .before .loop .inv) (search needs) 0 (p .before .le8 .ensures) refl (p .put8 .ensures)
+    flat-more (p .before .before .before .loop .inv) (search needs) 0 refl refl (p .put-word .ensures)
 
 pub put-words-spec : {M : Type 1} → statement M
-put-words-spec = tie.close (tie.spec Inv-loop μ-loop returns (λ c. flat-none (length-leBytes 8)) (λ c. search needs) (λ c. search needs) (λ c. search needs) (λ c. search needs) (λ c κs. search needs) (λ c κs. search needs) (λ c. search needs) (λ c. search needs) loop-again (λ c. search needs) (λ c. flat-end (c .before .loop .inv) (search needs)))
+put-words-spec = tie.close (tie.spec Inv-loop μ-loop returns (λ c. flat-none (length-leBytes 8)) (λ c. search needs) (λ c. search needs) (λ c. search needs) (λ c. search needs) (λ c κs. search needs) (λ c. search needs) (λ c. search needs) loop-again (λ c. search needs) (λ c. flat-end (c .before .loop .inv) (search needs)))

@@ -1,10 +1,10 @@
--- `groups_bytes::pair` meets its contract.
+-- `bytes::pair` meets its contract.
 use Rattle.base.proofs.Bytes.{le-join}
 use Rattle.base.specs.Bytes.{leBytes}
 use borrow.Author.Needs.{needs}
 use mathlib.Core.Path.{ap, _∙_}
-use Rattle.groups_bytes.proofs.pair.Statement.{statement}
-use Rattle.groups_bytes.proofs.pair.Tie as tie
+use Rattle.bytes.proofs.pair.Statement.{statement}
+use Rattle.bytes.proofs.pair.Tie as tie
 
 pub pair-spec : {M : Type 1} → statement M
 pair-spec = tie.close (tie.spec (λ c κs. search needs) (λ c. ap (leBytes 8) (c .join .ensures) ∙ le-join _ _ (search needs)))

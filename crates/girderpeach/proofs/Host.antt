@@ -1,0 +1,126 @@
+-- A host's calls, refused and accepted, on any engine. Assumes nothing.
+use mathlib.Core.Bool.{Bool, true, false, cond}
+use mathlib.Core.List.{List}
+use mathlib.Core.Path.{_≡_, refl, sym, ap, ap₂, _∙_}
+use Prim.Native.Nat.{ℕ, zero, suc, _^_, _<_, _≤_}
+use native.Mathlib.Omega.{arith}
+use borrow.Author.Tests.{eq-eqb, ne-eqb}
+use lib.Dec.{eqb}
+use lib.IntN.{ℤ}
+use lib.ListN.{length}
+use Rattle.base.specs.Iterate.{iterate}
+use Rattle.fills.specs.FillBytes.{refusalOf, bytesWritten, bytesDraws, unless, FilledBytes}
+use Rattle.saved.specs.Saved.{Saved, lengthRefusal}
+use Rattle.girderpeach.specs.Host.{answerOf, firstOf, Called, Engine, fillRefusal, HostFill}
+use Rattle.girderpeach.proofs.Draws.{few-draws, few-kind-refusals}
+
+-- ---- by the refusal
+pub unless-none : {A : Type 0} (r : ℕ) → r ≡ 0 → (a b : A) → unless r a b ≡ a
+unless-none zero e a b = refl
+unless-none (suc r) e a b = absurd (omega arith)
+
+pub unless-some : {A : Type 0} (r : ℕ) → (r ≡ 0 → ⊥) → (a b : A) → unless r a b ≡ b
+unless-some zero h a b = absurd (h refl)
+unless-some (suc r) h a b = refl
+
+first-none : (a b : ℕ) → a ≡ 0 → firstOf a b ≡ b
+first-none zero b e = refl
+first-none (suc a) b e = absurd (omega arith)
+
+first-some : (a b : ℕ) → (a ≡ 0 → ⊥) → firstOf a b ≡ a
+first-some zero b h = absurd (h refl)
+first-some (suc a) b h = refl
+
+pub length-no : {n : ℕ} (form : List ℕ) → (length form ≡ n → ⊥) → 1 ≡ lengthRefusal n form
+length-no {n} form h = simp (ne-eqb (length form) n h)
+
+pub length-yes : {n : ℕ} (form : List ℕ) → length form ≡ n → lengthRefusal n form ≡ 0
+length-yes {n} form e = simp (eq-eqb (length form) n e)
+
+-- a refusal's answer has no value
+no-value : (r v : ℕ) → (r ≡ 0 → ⊥) → answerOf r 0 ≡ answerOf r v
+no-value zero v h = absurd (h refl)
+no-value (suc r) v h = refl
+
+-- ---- any call
+module _ {refusal : ℕ} (value : ℕ) {answer : ℤ} where
+  pub answer-refused : {r : ℕ} → r ≡ refusal → (r ≡ 0 → ⊥) → answer ≡ answerOf r 0 → answer ≡ answerOf refusal value
+  answer-refused {r} e h q = q ∙ ap (λ (x : ℕ). answerOf x 0) e ∙ no-value refusal value (λ z. h (e ∙ z))
+
+  pub answer-done : {r : ℕ} → r ≡ refusal → r ≡ 0 → {v : ℕ} → answer ≡ answerOf 0 v → v ≡ value → answer ≡ answerOf refusal value
+  answer-done e z q w = q ∙ ap₂ (λ (x y : ℕ). answerOf x y) (sym z ∙ e) w
+
+module _ {refusal value : ℕ} {new form : List ℕ} {answer : ℤ} where
+  pub called-refused : {r : ℕ} → r ≡ refusal → (r ≡ 0 → ⊥) → answer ≡ answerOf r 0 → Called refusal value new form form answer
+  called-refused e h q = record { answers = answer-refused value e h q; saves = sym (unless-some refusal (λ z. h (e ∙ z)) new form) }
+
+  pub called-done : {r : ℕ} → r ≡ refusal → r ≡ 0 → {v : ℕ} → answer ≡ answerOf 0 v → v ≡ value → {form′ : List ℕ} → form′ ≡ new → Called refusal value new form form′ answer
+  called-done e z q v w = record { answers = answer-done value e z q v; saves = w ∙ sym (unless-none refusal (sym e ∙ z) new form) }
+
+-- a form that has its length is saved
+pub saved-form : {n : ℕ} {new form form′ : List ℕ} {r : ℕ} → Saved n new form form′ r → lengthRefusal n form ≡ 0 → form′ ≡ new
+saved-form {n} {new} {form} {form′} {r} S e = S .writes ∙ unless-none r (S .refuses ∙ e) new form
+
+-- a call that only saves
+module _ {n : ℕ} {new form form′ : List ℕ} {r : ℕ} (S : Saved n new form form′ r) where
+  pub few-length : r ≤ 5
+  few-length = go (eqb (length form) n) (S .refuses)
+    where
+      go : (b : Bool) → r ≡ cond b 0 1 → r ≤ 5
+      go true e = omega arith
+      go false e = omega arith
+
+  pub called-saved : {new′ : List ℕ} {answer : ℤ} → answer ≡ answerOf r 0 → new ≡ new′ → Called (lengthRefusal n form) 0 new′ form form′ answer
+  called-saved q e =
+      record { answers = q ∙ ap (λ (x : ℕ). answerOf x 0) (S .refuses); saves = S .writes ∙ ap₂ (λ (x : ℕ) (l : List ℕ). unless x l form) (S .refuses) e }
+
+-- ---- a fill. An engine's forms are refused with 1 to 3, and an accepted form has its length
+pub record Sound {G : Type 0} (E : Engine G) (n : ℕ) : Type 0 where
+  pub few : (s : List ℕ) → E .refusal s ≤ 3
+  pub sized : (s : List ℕ) → E .refusal s ≡ 0 → lengthRefusal n s ≡ 0
+
+pub few-form : {G : Type 0} {E : Engine G} {n : ℕ} → Sound E n → (s : List ℕ) {r : ℕ} → r ≡ E .refusal s → r ≤ 5
+few-form S s e = omega (arith, S .few s)
+
+-- what a fill of bytes answers fits
+module _ {G : Type 0} {words : G → List ℕ} {next : G → G} {k : ℕ} {g g′ : G} {out out′ : List ℕ} {r draws : ℕ} (F : FilledBytes words next k g out out′ r draws g′) where
+  pub few-kind : r ≤ 5
+  few-kind = let f = few-kind-refusals k (length out) in omega (arith, F .refuses)
+
+  pub few-made : length out < 2 ^ 64 → draws < 2 ^ 63
+  few-made h = go r (F .count)
+    where
+      go : (r : ℕ) → draws ≡ unless r (bytesDraws k (length out)) 0 → draws < 2 ^ 63
+      go zero e = let f = few-draws k (length out) h in omega arith
+      go (suc r) e = omega arith
+
+module _ {G : Type 0} (E : Engine G) (form : List ℕ) (k : ℕ) (out : List ℕ) where
+  -- the form is refused
+  pub fill-no-form : {r : ℕ} {answer : ℤ} → r ≡ E .refusal form → (r ≡ 0 → ⊥) → answer ≡ answerOf r 0 → HostFill E form k out answer form out
+  fill-no-form {r} e h q =
+      let f : r ≡ fillRefusal E form k out = e ∙ sym (first-some (E .refusal form) (refusalOf k (length out)) (λ z. h (e ∙ z))) in
+      record { called = called-refused f h q; writes = sym (unless-some (fillRefusal E form k out) (λ z. h (f ∙ z)) _ out) }
+
+  module _ {g g′ : G} {out′ : List ℕ} {r r₀ draws : ℕ} (e₀ : r₀ ≡ E .refusal form) (z₀ : r₀ ≡ 0) (F : FilledBytes (E .words) (E .next) k g out out′ r draws g′) where
+    refusal-is : r ≡ firstOf (E .refusal form) (refusalOf k (length out))
+    refusal-is = F .refuses ∙ sym (first-none (E .refusal form) (refusalOf k (length out)) (sym e₀ ∙ z₀))
+
+    -- the kind or the length of the output is refused
+    pub fill-no-kind : {answer : ℤ} → (r ≡ 0 → ⊥) → answer ≡ answerOf r 0 → HostFill E form k out answer form out′
+    fill-no-kind h q =
+        record {
+          called = called-refused refusal-is h q;
+          writes = F .writes ∙ unless-some r h _ out ∙ sym (unless-some (fillRefusal E form k out) (λ e. h (refusal-is ∙ e)) _ out);
+        }
+
+    -- nothing is
+    pub fill-done : {n r′ : ℕ} {form′ : List ℕ} {answer : ℤ} → Sound E n → g ≡ E .read form → r ≡ 0 → Saved n (E .form g′) form form′ r′ → answer ≡ answerOf 0 draws → HostFill E form k out answer form′ out′
+    fill-done s eg er S q =
+        let f : fillRefusal E form k out ≡ 0 = sym refusal-is ∙ er in
+        let d : draws ≡ bytesDraws k (length out) = F .count ∙ unless-none r er (bytesDraws k (length out)) 0 in
+        record {
+          called = called-done refl f q d (saved-form S (s .sized form (sym e₀ ∙ z₀)) ∙ ap (E .form) (F .state ∙ ap₂ (λ (m : ℕ) (x : G). iterate (E .next) m x) d eg));
+          writes =
+              F .writes ∙ unless-none r er _ out ∙ ap (λ (x : G). bytesWritten k (λ m. E .words (iterate (E .next) m x)) (length out)) eg
+              ∙ sym (unless-none (fillRefusal E form k out) f _ out);
+        }

@@ -1,0 +1,4 @@
+pub mod Answers
+pub mod Host
+pub mod Draws
+pub mod Engines

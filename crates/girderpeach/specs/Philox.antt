@@ -1,0 +1,29 @@
+-- The calls on the form of a Philox generator.
+use mathlib.Core.List.{List}
+use Prim.Native.Nat.{ℕ}
+use lib.IntN.{ℤ}
+use Rattle.saved.specs.Fields.{sizeOf}
+use Rattle.saved.specs.Saved.{lengthRefusal}
+use Rattle.philox_saved.specs.Form.{layout, formOf, loaded}
+use Rattle.philox_x8.specs.Machine.{wordsOf, nextOf, fresh, sought, leftOf}
+use Rattle.philox_x8.specs.declared.Philox4x32X8.{Philox4x32X8}
+use Rattle.girderpeach.specs.Host.{answerOf, Called, Engine, HostFill}
+
+abbrev pub engine : Engine Philox4x32X8
+engine = record { words = wordsOf; next = nextOf; refusal = λ s. loaded s .refusal; read = λ s. loaded s .rng; form = formOf }
+
+-- gp_philox_fill
+abbrev pub Filled : List ℕ → ℕ → List ℕ → ℤ → List ℕ → List ℕ → Type 0
+Filled = HostFill engine
+
+-- gp_philox_new: only the length can be refused
+abbrev pub New : ℕ → ℕ → List ℕ → ℤ → List ℕ → Type 0
+New seed stream form answer form′ = Called (lengthRefusal (sizeOf layout) form) 0 (formOf (fresh seed stream)) form form′ answer
+
+-- gp_philox_seek
+abbrev pub Sought : ℕ → List ℕ → ℤ → List ℕ → Type 0
+Sought block form answer form′ = Called (loaded form .refusal) 0 (formOf (sought (loaded form .rng) block)) form form′ answer
+
+-- gp_philox_draws_left
+abbrev pub drawsLeft : List ℕ → ℤ
+drawsLeft form = answerOf (loaded form .refusal) (leftOf (loaded form .rng))

@@ -1,0 +1,29 @@
+-- The calls on the form of an eight-lane generator.
+use mathlib.Core.List.{List}
+use mathlib.Core.Path.{_≡_}
+use Prim.Native.Nat.{ℕ}
+use lib.IntN.{ℤ}
+use Rattle.fills.specs.FillBytes.{unless}
+use Rattle.saved.specs.Fields.{sizeOf}
+use Rattle.saved.specs.Saved.{lengthRefusal}
+use Rattle.xoshiro_saved.specs.Form.{layout, formOf, loaded}
+use Rattle.xoshiro_x8.specs.Calls.{wordsOf, nextOf, placed, movedBlocks}
+use Rattle.xoshiro_x8.specs.declared.Xoshiro256ppX8.{Xoshiro256ppX8}
+use Rattle.girderpeach.specs.Host.{Called, Engine, HostFill}
+
+abbrev pub engine : Engine Xoshiro256ppX8
+engine = record { words = wordsOf; next = nextOf; refusal = λ s. loaded s .refusal; read = λ s. loaded s .rng; form = formOf }
+
+-- gp_xoshiro_fill
+abbrev pub Filled : List ℕ → ℕ → List ℕ → ℤ → List ℕ → List ℕ → Type 0
+Filled = HostFill engine
+
+-- gp_xoshiro_new: only the length can be refused. A refused call leaves the number as it was
+pub record New (seed block : ℕ) (form : List ℕ) (jumps : ℕ) (answer : ℤ) (form′ : List ℕ) (jumps′ : ℕ) : Type 0 where
+  pub called : Called (lengthRefusal (sizeOf layout) form) 0 (formOf (placed seed block .rng)) form form′ answer
+  pub counts : jumps′ ≡ unless (lengthRefusal (sizeOf layout) form) (placed seed block .jumps) jumps
+
+-- gp_xoshiro_jump_blocks
+pub record JumpedBlocks (n : ℕ) (form : List ℕ) (jumps : ℕ) (answer : ℤ) (form′ : List ℕ) (jumps′ : ℕ) : Type 0 where
+  pub called : Called (loaded form .refusal) 0 (formOf (movedBlocks n (loaded form .rng) .rng)) form form′ answer
+  pub counts : jumps′ ≡ unless (loaded form .refusal) (movedBlocks n (loaded form .rng) .jumps) jumps

@@ -1,0 +1,127 @@
+// Girderpeach for C (include/girderpeach.h): fills of both engines from a saved form, which each accepted call replaces with the state after
+// it. An answer is a number, or minus a refusal's number; a refused call changes no byte.
+ghost use mathlib.Core.Path.{_≡_};
+ghost use Prim.Native.Nat.{_≤_, _<_, _^_};
+ghost use Rattle.girderpeach.specs.Host.{answerOf};
+ghost use Rattle.girderpeach.specs.Xoshiro.{Filled, New, JumpedBlocks};
+ghost use Rattle.girderpeach.specs.Philox as philox;
+
+// The answer of a call: its value, or minus its refusal.
+fn answer_of(refusal: u64, value: u64) -> i64
+    requires { ⌜ (refusal ≤ 5) × (value < 2 ^ 63) ⌝ }
+    ensures { λ r. ⌜ r ≡ answerOf refusal value ⌝ }
+{
+    if refusal == 0 {
+        return value as i64;
+    }
+    -(refusal as i64)
+}
+
+// Fills `out` with the bytes of kind `kind`, and replaces `form`. Answers the draws made.
+#[no_mangle]
+pub extern "C" fn gp_xoshiro_fill(form: &mut [u8], kind: u64, out: &mut [u8]) -> i64
+    ensures { λ r. ⌜ Filled (now (form .entry)) kind (now (out .entry)) r (now (form .exit)) (now (out .exit)) ⌝ }
+{
+    let g = xoshiro_saved::load(form);
+    if g.refusal != 0 {
+        return answer_of(g.refusal, 0);
+    }
+    let rng = g.rng;
+    let f = xoshiro_fill_bytes::fill_bytes(rng, kind, out);
+    if f.refusal != 0 {
+        return answer_of(f.refusal, 0);
+    }
+    let last = f.rng;
+    xoshiro_saved::save(last, form);
+    answer_of(0, f.draws)
+}
+
+#[no_mangle]
+pub extern "C" fn gp_philox_fill(form: &mut [u8], kind: u64, out: &mut [u8]) -> i64
+    ensures { λ r. ⌜ philox.Filled (now (form .entry)) kind (now (out .entry)) r (now (form .exit)) (now (out .exit)) ⌝ }
+{
+    let g = philox_saved::load(form);
+    if g.refusal != 0 {
+        return answer_of(g.refusal, 0);
+    }
+    let rng = g.rng;
+    let f = philox_fill_bytes::fill_bytes(rng, kind, out);
+    if f.refusal != 0 {
+        return answer_of(f.refusal, 0);
+    }
+    let last = f.rng;
+    philox_saved::save(last, form);
+    answer_of(0, f.draws)
+}
+
+// Writes the form of block `block` of `seed`, and the jumps that the block counts.
+#[no_mangle]
+pub extern "C" fn gp_xoshiro_new(seed: u64, block: u64, form: &mut [u8], jumps: &mut u64) -> i64
+    ensures { λ r. ⌜ New seed block (now (form .entry)) (now (jumps .entry)) r (now (form .exit)) (now (jumps .exit)) ⌝ }
+{
+    // tested first: a block far off takes long to reach
+    if form.len() != 256 {
+        return answer_of(1, 0);
+    }
+    let start = xoshiro_x8::Xoshiro256ppX8::from_seed_block(seed, block);
+    let rng = start.rng;
+    xoshiro_saved::save(rng, form);
+    *jumps = start.jumps;
+    0
+}
+
+// Moves the form by `n` blocks, and writes the jumps that the move counts.
+#[no_mangle]
+pub extern "C" fn gp_xoshiro_jump_blocks(form: &mut [u8], n: u64, jumps: &mut u64) -> i64
+    ensures { λ r. ⌜ JumpedBlocks n (now (form .entry)) (now (jumps .entry)) r (now (form .exit)) (now (jumps .exit)) ⌝ }
+{
+    let g = xoshiro_saved::load(form);
+    if g.refusal != 0 {
+        return answer_of(g.refusal, 0);
+    }
+    let rng = g.rng;
+    let moved = rng.jump_blocks(n);
+    let after = moved.rng;
+    xoshiro_saved::save(after, form);
+    *jumps = moved.jumps;
+    0
+}
+
+// Writes the form of stream `stream` of key `seed`, counter 0.
+#[no_mangle]
+pub extern "C" fn gp_philox_new(seed: u64, stream: u64, form: &mut [u8]) -> i64
+    ensures { λ r. ⌜ philox.New seed stream (now (form .entry)) r (now (form .exit)) ⌝ }
+{
+    let rng = philox_x8::Philox4x32X8::new(seed, stream);
+    let refusal = philox_saved::save(rng, form);
+    answer_of(refusal, 0)
+}
+
+// Block `block` is next, and no words wait.
+#[no_mangle]
+pub extern "C" fn gp_philox_seek(form: &mut [u8], block: u64) -> i64
+    ensures { λ r. ⌜ philox.Sought block (now (form .entry)) r (now (form .exit)) ⌝ }
+{
+    let g = philox_saved::load(form);
+    if g.refusal != 0 {
+        return answer_of(g.refusal, 0);
+    }
+    let rng = g.rng;
+    let after = rng.seek(block);
+    philox_saved::save(after, form);
+    0
+}
+
+// Answers the draws that the whole groups before counter 2^64 still hold.
+#[no_mangle]
+pub extern "C" fn gp_philox_draws_left(form: &[u8]) -> i64
+    ensures { λ r. ⌜ r ≡ philox.drawsLeft (now (form .entry)) ⌝ }
+{
+    let g = philox_saved::load(form);
+    if g.refusal != 0 {
+        return answer_of(g.refusal, 0);
+    }
+    let rng = g.rng;
+    let left = rng.draws_left();
+    answer_of(0, left)
+}

@@ -1,0 +1,3 @@
+pub mod Form
+pub mod Widths
+pub mod Theorems

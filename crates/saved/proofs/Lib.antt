@@ -1,0 +1,4 @@
+pub mod Fields
+pub mod Bounds
+pub mod Tests
+pub mod Saved

@@ -1,0 +1,29 @@
+-- A test of every element of a table, by the test of each. Assumes nothing.
+use mathlib.Core.Path.{_≡_, refl, ap, ap₂, _∙_}
+use mathlib.Core.Bool.{Bool, true, false, _&&_, and-false, false≢true}
+use Prim.Native.Nat.{ℕ, zero, suc, _<_, suc-le-suc}
+use native.Mathlib.Nat.{le-of-suc-le-suc, not-suc-le-zero, zero-lt-suc}
+use Rattle.base.specs.Every.{every}
+use Rattle.base.specs.Table.{table}
+
+pub and-both : (a b : Bool) → a && b ≡ true → (a ≡ true) × (b ≡ true)
+and-both true b e = (refl, e)
+and-both false b e = absurd (false≢true e)
+
+module _ {A : Type 0} (p : A → Bool) where
+  pub all-pass : (n : ℕ) (f : ℕ → A) → ((i : ℕ) → i < n → p (f i) ≡ true) → every p (table n f) ≡ true
+  unfolding table
+  all-pass zero f h = refl
+  all-pass (suc n) f h = ap₂ _&&_ (h 0 (zero-lt-suc n)) (all-pass n (λ i. f (suc i)) (λ i l. h (suc i) (suc-le-suc l)))
+
+  pub one-fails : (n : ℕ) (f : ℕ → A) (i : ℕ) → i < n → p (f i) ≡ false → every p (table n f) ≡ false
+  unfolding table
+  one-fails zero f i l e = absurd (not-suc-le-zero l)
+  one-fails (suc n) f zero l e = ap (λ (b : Bool). b && every p (table n (λ i. f (suc i)))) e
+  one-fails (suc n) f (suc i) l e = ap (λ (b : Bool). p (f 0) && b) (one-fails n (λ j. f (suc j)) i (le-of-suc-le-suc l) e) ∙ and-false (p (f 0))
+
+  pub each-passes : (n : ℕ) (f : ℕ → A) → every p (table n f) ≡ true → (i : ℕ) → i < n → p (f i) ≡ true
+  unfolding table
+  each-passes zero f e i l = absurd (not-suc-le-zero l)
+  each-passes (suc n) f e zero l = and-both (p (f 0)) _ e .0
+  each-passes (suc n) f e (suc i) l = each-passes n (λ j. f (suc j)) (and-both (p (f 0)) _ e .1) i (le-of-suc-le-suc l)

@@ -1,0 +1,18 @@
+-- What saving promises, on any engine.
+use mathlib.Core.Bool.{cond}
+use mathlib.Core.List.{List}
+use mathlib.Core.Path.{_≡_}
+use Prim.Native.Nat.{ℕ}
+use lib.Dec.{eqb}
+use lib.ListN.{length}
+use Rattle.fills.specs.FillBytes.{unless}
+
+-- 1 if a slice has another length than a form of n bytes
+abbrev pub lengthRefusal : ℕ → List ℕ → ℕ
+lengthRefusal n s = cond (eqb (length s) n) 0 1
+
+-- A form of n bytes, to be written into the slice `before`, left the slice `after`: refused with 1 where the slice has another length, and
+-- then the slice is as it was.
+pub record Saved (n : ℕ) (form before after : List ℕ) (refusal : ℕ) : Type 0 where
+  pub refuses : refusal ≡ lengthRefusal n before
+  pub writes : after ≡ unless refusal form before

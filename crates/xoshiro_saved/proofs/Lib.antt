@@ -1,0 +1,4 @@
+pub mod Form
+pub mod Widths
+pub mod Nonzero
+pub mod Theorems

@@ -1,0 +1,76 @@
+/* Girderpeach: random numbers by seed, block and length, each call proved against its contract.
+ *
+ * A generator is a saved form: bytes that the caller keeps, 256 for xoshiro256++ (eight lanes) and 96 for Philox4x32-10. The bytes are
+ * the same on every machine, so a form can be stored, sent on and used elsewhere. The library keeps nothing between two calls.
+ *
+ * An answer is 0 or more, or minus the number of a refusal: the lowest that applies. A refused call changes no byte.
+ *
+ * What the library cannot know, and a caller has to see to:
+ *   - `form` points to form_len bytes, `out` to out_len bytes and `jumps` to a uint64_t. No pointer is null, also where a length is 0.
+ *   - What one call is handed does not overlap, and no other thread uses it during the call. Calls on different forms may run at once.
+ */
+#ifndef GIRDERPEACH_H
+#define GIRDERPEACH_H
+
+#include <stddef.h>
+#include <stdint.h>
+
+/* Lengths of the saved forms, in bytes. Numbers in them are little-endian.
+ * xoshiro: 32 words of 8 bytes; word k of lane i (k 0 to 3, i 0 to 7) begins at byte 64 k + 8 i.
+ * Philox: the key at byte 0 (its low 4 bytes, then its high 4), stream at 8, counter at 16, mark at 24 (1 if words wait, else 0), the eight
+ * waiting words at 32 (zeros if none wait). */
+#define GP_XOSHIRO_FORM 256
+#define GP_PHILOX_FORM 96
+
+/* Kinds of elements. An element is written little-endian, a float as its bits (IEEE 754). Elements are made in groups, and a draw is eight words
+ * of 64 bits. A fill of n elements makes n / (elements of a group) groups, rounded up, and drops what the last one has over. So a fill may
+ * be cut into several, with the same bytes, after any whole group. */
+#define GP_U64 1        /* 8 bytes, groups of 8, 1 draw a group */
+#define GP_U32 2        /* 4 bytes, groups of 16, 1 draw a group */
+#define GP_F32 3        /* 4 bytes, groups of 16, 1 draw a group: uniform in [0, 1) */
+#define GP_F64 4        /* 8 bytes, groups of 8, 1 draw a group: uniform in [0, 1) */
+#define GP_NORMAL_F32 5 /* 4 bytes, groups of 16, 1 draw a group: standard normal */
+#define GP_NORMAL_F64 6 /* 8 bytes, groups of 16, 2 draws a group: standard normal */
+
+/* Refusals. */
+#define GP_REFUSED_FORM_LENGTH 1 /* form_len is not 256 (xoshiro) or 96 (Philox) */
+#define GP_REFUSED_MARK 2        /* a Philox form's mark is neither 0 nor 1, or it is 0 and a waiting byte is not zero */
+#define GP_REFUSED_ZERO_LANE 3   /* some lane of an xoshiro form has four zero words */
+#define GP_REFUSED_KIND 4        /* the kind is none of the six */
+#define GP_REFUSED_OUT_LENGTH 5  /* out_len is not a multiple of the kind's bytes */
+
+#ifdef __cplusplus
+extern "C" {
+#endif
+
+/* Fills `out` with elements of a kind and replaces `form` with the state after it. Answers the draws made.
+ * Refuses with 1, 3, 4, 5. */
+int64_t gp_xoshiro_fill(uint8_t *form, size_t form_len, uint64_t kind, uint8_t *out, size_t out_len);
+
+/* The same for Philox. Refuses with 1, 2, 4, 5. */
+int64_t gp_philox_fill(uint8_t *form, size_t form_len, uint64_t kind, uint8_t *out, size_t out_len);
+
+/* Writes the form of block `block` of `seed`: lane i is the seed's state after (8 block mod 2^64) + i jumps. Writes
+ * 8 block mod 2^64 to *jumps and answers 0. Refuses with 1, and then leaves *jumps as it was.
+ * Takes time in proportion to the block: 8 block + 7 jumps, of about 0.3 microseconds each. */
+int64_t gp_xoshiro_new(uint64_t seed, uint64_t block, uint8_t *form, size_t form_len, uint64_t *jumps);
+
+/* Moves every lane on by 8 n mod 2^64 jumps, writes that number to *jumps and answers 0. Refuses with 1, 3, and then leaves *jumps as
+ * it was. Takes time in proportion to n: 64 n jumps, eight lanes' worth. */
+int64_t gp_xoshiro_jump_blocks(uint8_t *form, size_t form_len, uint64_t n, uint64_t *jumps);
+
+/* Writes the form of stream `stream` of key `seed`, at block 0 with no words waiting, and answers 0. Refuses with 1. */
+int64_t gp_philox_new(uint64_t seed, uint64_t stream, uint8_t *form, size_t form_len);
+
+/* Makes `block` the next one, with no words waiting, and answers 0. Refuses with 1, 2. */
+int64_t gp_philox_seek(uint8_t *form, size_t form_len, uint64_t block);
+
+/* Answers the draws left before the block counter passes 2^64: 2 floor((2^64 - counter) / 8). Waiting words are not counted.
+ * Refuses with 1, 2. */
+int64_t gp_philox_draws_left(const uint8_t *form, size_t form_len);
+
+#ifdef __cplusplus
+}
+#endif
+
+#endif

@@ -1,0 +1,452 @@
+/* Tests the library from C:
+ *
+ *     host EXPECTED [tight]
+ *
+ * What is refused, and the draws, come from the scope document's rules, written down here. Words and forms come from the Rust: EXPECTED is a
+ * list of calls and of its answers (tests/host/expected.txt). With `tight` the lent buffers have no room around them, so that valgrind
+ * sees a byte that is read or written outside one; and fewer cases are tried. */
+#include <inttypes.h>
+#include <stdarg.h>
+#include <stdio.h>
+#include <stdlib.h>
+#include <string.h>
+
+#include "girderpeach.h"
+
+static int tight;
+static unsigned long checks, failures;
+
+static void fail(const char *format, ...) {
+    va_list list;
+    if (++failures > 20) return;
+    va_start(list, format);
+    fputs("  FAILED: ", stdout);
+    vprintf(format, list);
+    putchar('\n');
+    va_end(list);
+}
+
+/* The call that is being tried, for what fail prints. */
+struct call {
+    const char *name;
+    size_t form_len;
+    uint64_t a, b;
+};
+
+static void expect(const struct call *c, const char *what, uint64_t found, uint64_t expected) {
+    checks++;
+    if (found == expected) return;
+    fail("%s, form length %zu, arguments %" PRIu64 " and %" PRIu64 ": %s: expected %" PRId64 " (%016" PRIx64 "), found %" PRId64 " (%016" PRIx64 ")",
+         c->name, c->form_len, c->a, c->b, what, (int64_t)expected, expected, (int64_t)found, found);
+}
+
+/* ---- lent buffers */
+
+static uint64_t noise_state = 20260102;
+
+static uint64_t noise(void) { /* SplitMix64 */
+    uint64_t z = noise_state += 0x9e3779b97f4a7c15;
+    z = (z ^ z >> 30) * 0xbf58476d1ce4e5b9;
+    z = (z ^ z >> 27) * 0x94d049bb133111eb;
+    return z ^ z >> 31;
+}
+
+static void put_noise(uint8_t *bytes, size_t n) {
+    for (size_t i = 0; i < n; i++) bytes[i] = (uint8_t)noise();
+}
+
+/* A buffer with noise on both sides of what is lent, and what stood there before the call. */
+struct lent {
+    uint8_t *whole, *before, *at;
+    size_t guard, length;
+};
+
+static struct lent lend(const uint8_t *content, size_t length) {
+    static unsigned count;
+    struct lent l;
+    l.guard = tight ? 0 : 16 + count++ % 8; /* so that a lent buffer begins at any place of a word */
+    l.length = length;
+    l.whole = malloc(length + 2 * l.guard);
+    l.before = malloc(length + 2 * l.guard);
+    l.at = l.whole + l.guard;
+    put_noise(l.whole, length + 2 * l.guard);
+    if (content && length) memcpy(l.at, content, length);
+    memcpy(l.before, l.whole, length + 2 * l.guard);
+    return l;
+}
+
+static int same(const uint8_t *x, const uint8_t *y, size_t n) { return n == 0 || memcmp(x, y, n) == 0; }
+
+/* Nothing outside was written; and, unless the call was to write there, nothing inside. */
+static void expect_kept(const struct call *c, const char *what, const struct lent *l, int inside) {
+    size_t end = l->guard + l->length;
+    checks++;
+    if (!same(l->whole, l->before, l->guard) || !same(l->whole + end, l->before + end, l->guard))
+        fail("%s, arguments %" PRIu64 " and %" PRIu64 ": bytes outside the %s changed", c->name, c->a, c->b, what);
+    for (size_t i = l->guard; inside && i < end; i++) {
+        if (l->whole[i] == l->before[i]) continue;
+        fail("%s, form length %zu, arguments %" PRIu64 " and %" PRIu64 ": byte %zu of the %s: expected %02x as before, found %02x", c->name,
+             c->form_len, c->a, c->b, i - l->guard, what, l->before[i], l->whole[i]);
+        return;
+    }
+}
+
+static void give_back(struct lent *l) {
+    free(l->whole);
+    free(l->before);
+}
+
+/* ---- the rules */
+
+static uint64_t word_at(const uint8_t *bytes) {
+    uint64_t x = 0;
+    for (int i = 7; i >= 0; i--) x = x << 8 | bytes[i];
+    return x;
+}
+
+static void put_word(uint8_t *bytes, uint64_t x) {
+    for (int i = 0; i < 8; i++) bytes[i] = (uint8_t)(x >> 8 * i);
+}
+
+static int all_zero(const uint8_t *bytes, size_t n) {
+    while (n > 0 && bytes[n - 1] == 0) n--;
+    return n == 0;
+}
+
+static int philox_fault(const uint8_t *form, size_t length) {
+    if (length != 96) return 1;
+    uint64_t mark = word_at(form + 24);
+    return mark > 1 || (mark == 0 && !all_zero(form + 32, 64)) ? 2 : 0;
+}
+
+static int xoshiro_fault(const uint8_t *form, size_t length) {
+    if (length != 256) return 1;
+    for (int i = 0; i < 8; i++) {
+        uint64_t any = 0;
+        for (int row = 0; row < 4; row++) any |= word_at(form + 64 * row + 8 * i);
+        if (any == 0) return 3;
+    }
+    return 0;
+}
+
+struct engine {
+    const char *name;
+    size_t length;
+    int (*fault)(const uint8_t *form, size_t length);
+    int64_t (*fill)(uint8_t *form, size_t form_len, uint64_t kind, uint8_t *out, size_t out_len);
+};
+static const struct engine xoshiro = {"gp_xoshiro_fill", 256, xoshiro_fault, gp_xoshiro_fill};
+static const struct engine philox = {"gp_philox_fill", 96, philox_fault, gp_philox_fill};
+
+/* Of kinds 1 to 6: bytes of an element, elements of a group, draws of a group. */
+static const struct {
+    size_t width, places;
+    int64_t draws;
+} kinds[7] = {{0, 0, 0}, {8, 8, 1}, {4, 16, 1}, {4, 16, 1}, {8, 8, 1}, {4, 16, 1}, {8, 16, 2}};
+
+static int64_t fill_answer(int form_fault, uint64_t kind, size_t out_len) {
+    if (form_fault) return -form_fault;
+    if (kind < 1 || kind > 6) return -4;
+    if (out_len % kinds[kind].width) return -5;
+    size_t places = out_len / kinds[kind].width;
+    return kinds[kind].draws * (int64_t)((places + kinds[kind].places - 1) / kinds[kind].places);
+}
+
+/* The header's names stand for the scope document's numbers, which the tests below write out. */
+static void names(void) {
+    static const int named[] = {GP_XOSHIRO_FORM, GP_PHILOX_FORM, GP_U64, GP_U32, GP_F32, GP_F64, GP_NORMAL_F32, GP_NORMAL_F64, GP_REFUSED_FORM_LENGTH,
+                                GP_REFUSED_MARK, GP_REFUSED_ZERO_LANE, GP_REFUSED_KIND, GP_REFUSED_OUT_LENGTH};
+    static const int numbers[] = {256, 96, 1, 2, 3, 4, 5, 6, 1, 2, 3, 4, 5};
+    struct call c = {"the header", 0, 0, 0};
+    for (; c.a < sizeof numbers / sizeof *numbers; c.a++) expect(&c, "name", (uint64_t)named[c.a], (uint64_t)numbers[c.a]);
+}
+
+/* ---- one call of each function, held to the rules */
+
+/* The bytes written and the form after it are left in `out` and `after`, where these are wanted. */
+static void try_fill(const struct engine *e, const uint8_t *form, size_t form_len, uint64_t kind, size_t out_len, int64_t expected, uint8_t *out,
+                     uint8_t *after) {
+    struct call c = {e->name, form_len, kind, out_len};
+    struct lent f = lend(form, form_len), o = lend(NULL, out_len);
+    int64_t answer = e->fill(f.at, form_len, kind, o.at, out_len);
+    expect(&c, "answer", (uint64_t)answer, (uint64_t)expected);
+    expect_kept(&c, "form", &f, expected <= 0); /* no draws, no change */
+    expect_kept(&c, "output", &o, expected <= 0);
+    if (out && out_len) memcpy(out, o.at, out_len);
+    if (after) memcpy(after, f.at, form_len);
+    give_back(&f);
+    give_back(&o);
+}
+
+/* Returns the number of jumps that was written. */
+static uint64_t try_jump_blocks(const uint8_t *form, size_t form_len, uint64_t n, uint8_t *after) {
+    struct call c = {"gp_xoshiro_jump_blocks", form_len, n, 0};
+    int fault = xoshiro_fault(form, form_len);
+    struct lent f = lend(form, form_len);
+    uint64_t jumps[3] = {7, 12345, 7};
+    int64_t answer = gp_xoshiro_jump_blocks(f.at, form_len, n, &jumps[1]);
+    expect(&c, "answer", (uint64_t)answer, (uint64_t)-fault);
+    expect(&c, "jumps", jumps[1], fault ? 12345 : 8 * n);
+    expect(&c, "beside jumps", jumps[0] + jumps[2], 14);
+    expect_kept(&c, "form", &f, fault || 8 * n == 0);
+    if (after) memcpy(after, f.at, form_len);
+    give_back(&f);
+    return jumps[1];
+}
+
+static uint64_t try_xoshiro_new(uint64_t seed, uint64_t block, size_t form_len, uint8_t *after) {
+    struct call c = {"gp_xoshiro_new", form_len, seed, block};
+    int fault = form_len != 256;
+    struct lent f = lend(NULL, form_len);
+    uint64_t jumps[3] = {7, 12345, 7};
+    int64_t answer = gp_xoshiro_new(seed, block, f.at, form_len, &jumps[1]);
+    expect(&c, "answer", (uint64_t)answer, (uint64_t)-fault);
+    expect(&c, "jumps", jumps[1], fault ? 12345 : 8 * block);
+    expect(&c, "beside jumps", jumps[0] + jumps[2], 14);
+    expect_kept(&c, "form", &f, fault);
+    if (after) memcpy(after, f.at, form_len);
+    give_back(&f);
+    return jumps[1];
+}
+
+static void try_philox_new(uint64_t seed, uint64_t stream, size_t form_len, uint8_t *after) {
+    struct call c = {"gp_philox_new", form_len, seed, stream};
+    int fault = form_len != 96;
+    struct lent f = lend(NULL, form_len);
+    uint8_t expected[96] = {0};
+    put_word(expected, seed);
+    put_word(expected + 8, stream);
+    expect(&c, "answer", (uint64_t)gp_philox_new(seed, stream, f.at, form_len), (uint64_t)-fault);
+    expect_kept(&c, "form", &f, fault);
+    if (!fault && !same(f.at, expected, 96)) fail("gp_philox_new(%" PRIu64 ", %" PRIu64 "): not the form of this key and stream", seed, stream);
+    if (after) memcpy(after, f.at, form_len);
+    give_back(&f);
+}
+
+static void try_seek(const uint8_t *form, size_t form_len, uint64_t block, uint8_t *after) {
+    struct call c = {"gp_philox_seek", form_len, block, 0};
+    int fault = philox_fault(form, form_len);
+    struct lent f = lend(form, form_len);
+    expect(&c, "answer", (uint64_t)gp_philox_seek(f.at, form_len, block), (uint64_t)-fault);
+    expect_kept(&c, "form", &f, fault);
+    if (!fault) {
+        expect(&c, "key and stream kept", (uint64_t)same(f.at, form, 16), 1);
+        expect(&c, "counter", word_at(f.at + 16), block);
+        expect(&c, "no words wait", (uint64_t)all_zero(f.at + 24, 72), 1);
+    }
+    if (after) memcpy(after, f.at, form_len);
+    give_back(&f);
+}
+
+static void try_draws_left(const uint8_t *form, size_t form_len) {
+    struct call c = {"gp_philox_draws_left", form_len, 0, 0};
+    int fault = philox_fault(form, form_len);
+    struct lent f = lend(form, form_len);
+    int64_t expected = -fault;
+    if (!fault) {
+        uint64_t counter = c.a = word_at(form + 16);
+        expected = counter == 0 ? (int64_t)1 << 62 : (int64_t)(-counter / 8 * 2); /* -counter is 2^64 - counter */
+    }
+    expect(&c, "answer", (uint64_t)gp_philox_draws_left(f.at, form_len), (uint64_t)expected);
+    expect_kept(&c, "form", &f, 1);
+    give_back(&f);
+}
+
+/* ---- what is refused */
+
+/* Room for a form and more, which is noise. Noise is a good xoshiro form. */
+#define ROOM 600
+static void put_xoshiro(uint8_t *form) { put_noise(form, ROOM); }
+
+static void put_philox(uint8_t *form, int waiting) {
+    put_noise(form, ROOM);
+    put_word(form + 24, (uint64_t)waiting);
+    if (!waiting) memset(form + 32, 0, 64);
+}
+
+static void zero_lane(uint8_t *form, int i) {
+    for (int row = 0; row < 4; row++) memset(form + 64 * row + 8 * i, 0, 8);
+}
+
+/* Every set of faults: the lowest number is answered. */
+static void faults_together(void) {
+    for (int set = 1; set < 16; set++) {
+        uint8_t x[ROOM], p[ROOM];
+        int length = set & 1, damaged = set & 2, kind = set & 4, out = set & 8;
+        put_xoshiro(x);
+        put_philox(p, 1);
+        if (damaged) zero_lane(x, 5);
+        if (damaged) p[24] = 2;
+        int later = kind ? 4 : 5;
+        /* 17 bytes are whole elements of no kind */
+        try_fill(&xoshiro, x, length ? 255 : 256, kind ? 7 : 6, out ? 17 : 16, length ? -1 : damaged ? -3 : -later, NULL, NULL);
+        try_fill(&philox, p, length ? 97 : 96, kind ? 0 : 2, out ? 17 : 16, length ? -1 : damaged ? -2 : -later, NULL, NULL);
+    }
+}
+
+static void every_kind_and_length(const struct engine *e, const uint8_t *form, size_t form_len) {
+    static const uint64_t numbers[] = {0, 1, 2, 3, 4, 5, 6, 7, 8, 255, 257, 262, 65537, ((uint64_t)1 << 32) + 1, (uint64_t)1 << 63, UINT64_MAX};
+    int fault = e->fault(form, form_len);
+    for (size_t k = 0; k < sizeof numbers / sizeof *numbers; k++) {
+        for (size_t out_len = 0; out_len <= 272; out_len += tight && out_len > 16 ? 15 : 1)
+            try_fill(e, form, form_len, numbers[k], out_len, fill_answer(fault, numbers[k], out_len), NULL, NULL);
+    }
+}
+
+static void every_form_length(void) {
+    static const size_t lengths[] = {0, 1, 8, 88, 95, 96, 97, 104, 192, 248, 255, 256, 257, 264, 352, 512};
+    uint8_t x[ROOM], p[ROOM];
+    put_xoshiro(x);
+    put_philox(p, 0);
+    for (size_t i = 0; i < sizeof lengths / sizeof *lengths; i++) {
+        size_t n = lengths[i];
+        /* a block so far off that a call which is refused only after going there would not end */
+        uint64_t far = (uint64_t)1 << 50;
+        every_kind_and_length(&xoshiro, x, n);
+        every_kind_and_length(&philox, p, n);
+        try_xoshiro_new(1, n == 256 ? 1 : far, n, NULL);
+        try_jump_blocks(x, n, n == 256 ? 1 : far, NULL);
+        try_philox_new(1, 2, n, NULL);
+        try_seek(p, n, 3, NULL);
+        try_draws_left(p, n);
+    }
+}
+
+/* Each of the 96 bytes set to other values, in a form without waiting words and in one with them. */
+static void damaged_philox(int waiting) {
+    uint8_t good[ROOM], form[96], out[64], after[96];
+    put_philox(good, waiting);
+    for (int i = 0; i < 96; i++) {
+        for (int x = 0; x < 256; x += tight && x > 2 && x < 254 ? 25 : 1) {
+            memcpy(form, good, 96);
+            form[i] = (uint8_t)x;
+            int fault = philox_fault(form, 96);
+            try_seek(form, 96, noise(), NULL);
+            try_draws_left(form, 96);
+            try_fill(&philox, form, 96, 0, 3, fault ? -2 : -4, NULL, NULL);
+            try_fill(&philox, form, 96, 1, 64, fault ? -2 : 1, out, after);
+            if (fault) continue;
+            /* one draw: the waiting words are handed out, or the next eight blocks are made and leave words waiting */
+            struct call c = {"gp_philox_fill of a form with one byte set", 96, (uint64_t)i, (uint64_t)x};
+            int held = form[24];
+            expect(&c, "key and stream kept", (uint64_t)same(after, form, 16), 1);
+            expect(&c, "counter", word_at(after + 16), word_at(form + 16) + (held ? 0 : 8));
+            expect(&c, "mark", word_at(after + 24), !held);
+            if (held) expect(&c, "the waiting words handed out", (uint64_t)same(out, form + 32, 64), 1);
+            if (held) expect(&c, "no words left", (uint64_t)all_zero(after + 32, 64), 1);
+        }
+    }
+}
+
+static void try_xoshiro_form(const uint8_t *form) {
+    int fault = xoshiro_fault(form, 256);
+    try_fill(&xoshiro, form, 256, 9, 1, fault ? -3 : -4, NULL, NULL);
+    try_fill(&xoshiro, form, 256, 2, 64, fault ? -3 : 1, NULL, NULL);
+    try_jump_blocks(form, 256, fault ? 1 : 0, NULL);
+}
+
+/* Every set of lanes zeroed; each word zeroed; a lane with one byte that is not zero; each byte set to other values. */
+static void damaged_xoshiro(void) {
+    uint8_t good[ROOM], form[256];
+    put_xoshiro(good);
+    for (int set = 0; set < 256; set++) {
+        memcpy(form, good, 256);
+        for (int i = 0; i < 8; i++)
+            if (set >> i & 1) zero_lane(form, i);
+        try_xoshiro_form(form);
+    }
+    for (int at = 0; at < 256; at++) {
+        memcpy(form, good, 256);
+        memset(form + at / 8 * 8, 0, 8);
+        try_xoshiro_form(form);
+        zero_lane(form, at / 8 % 8);
+        form[at] = (uint8_t)(1 << at % 8);
+        try_xoshiro_form(form);
+        memcpy(form, good, 256);
+        form[at] = (uint8_t)(form[at] + 1 + noise() % 255);
+        try_xoshiro_form(form);
+    }
+}
+
+/* ---- the Rust's answers */
+
+static uint64_t digest(const uint8_t *bytes, size_t n) { /* FNV-1a, 64 bits */
+    uint64_t sum = 0xcbf29ce484222325;
+    for (size_t i = 0; i < n; i++) sum = (sum ^ bytes[i]) * 0x100000001b3;
+    return sum;
+}
+
+/* A line of the list: a call and its arguments; its answer, the number beside it, and the digests of output and form. */
+struct line {
+    char call[16];
+    uint64_t a, b;
+    int64_t answer;
+    uint64_t number, out, form;
+};
+
+static void replay(const struct line *l, const struct engine **e, uint8_t *form) {
+    struct call c = {l->call, (*e)->length, l->a, l->b};
+    uint8_t before[256], *out = NULL;
+    size_t out_len = 0;
+    uint64_t number = 0;
+    memcpy(before, form, 256);
+    if (!strcmp(l->call, "xoshiro")) {
+        *e = &xoshiro;
+        number = try_xoshiro_new(l->a, l->b, 256, form);
+    } else if (!strcmp(l->call, "philox")) {
+        *e = &philox;
+        try_philox_new(l->a, l->b, 96, form);
+    } else if (!strcmp(l->call, "jump_blocks")) {
+        number = try_jump_blocks(before, 256, l->a, form);
+    } else if (!strcmp(l->call, "seek")) {
+        try_seek(before, 96, l->a, form);
+    } else if (!strcmp(l->call, "fill") && l->a >= 1 && l->a <= 6) {
+        out_len = l->b * kinds[l->a].width;
+        out = malloc(out_len + 1);
+        try_fill(*e, before, (*e)->length, l->a, out_len, l->answer, out, form);
+    } else {
+        fail("%s is no call", l->call);
+    }
+    expect(&c, "digest of the output", digest(out, out_len), l->out);
+    expect(&c, "digest of the form", digest(form, (*e)->length), l->form);
+    if (*e == &philox) number = (uint64_t)gp_philox_draws_left(form, 96);
+    expect(&c, "jumps, or draws left", number, l->number);
+    free(out);
+}
+
+static void replay_file(const char *name) {
+    FILE *file = fopen(name, "r");
+    const struct engine *e = &xoshiro;
+    uint8_t form[256] = {0};
+    struct line l;
+    unsigned long lines = 0;
+    if (!file) {
+        fail("cannot read %s", name);
+        return;
+    }
+    while (fscanf(file, "%15s %" SCNu64 " %" SCNu64 " %" SCNd64 " %" SCNu64 " %" SCNx64 " %" SCNx64, l.call, &l.a, &l.b, &l.answer, &l.number, &l.out,
+                  &l.form) == 7) {
+        lines++;
+        replay(&l, &e, form);
+    }
+    if (!feof(file) || lines < 500) fail("%s: expected 500 lines or more, found %lu good ones", name, lines);
+    fclose(file);
+}
+
+int main(int count, char **words) {
+    if (count < 2) {
+        fputs("host EXPECTED [tight]\n", stderr);
+        return 2;
+    }
+    tight = count > 2;
+    setvbuf(stdout, NULL, _IONBF, 0); /* what failed is said even if a call does not end */
+    names();
+    faults_together();
+    every_form_length();
+    damaged_philox(0);
+    damaged_philox(1);
+    damaged_xoshiro();
+    replay_file(words[1]);
+    printf("  host.c: %lu checks, %lu failures\n", checks, failures);
+    return failures != 0;
+}

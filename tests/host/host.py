@@ -1,0 +1,433 @@
+"""Tests the shared object from Python: host.py LIBRARY EXPECTED
+
+Words, unit floats, draws and forms are held to models of both engines, written here from the published definitions (Blackman and Vigna;
+Salmon et al. 2011) and the scope document; normals to the Box-Muller formula, within rounding; and all of it, bit for bit, to the Rust's
+answers in EXPECTED (tests/host/expected.txt)."""
+import ctypes
+import math
+import random
+import struct
+import sys
+
+M32, M64 = 2**32 - 1, 2**64 - 1
+JUMP = (0x180EC6D33CFD0ABA, 0xD5A61266F0C9392C, 0xA9582618E03FC9AA, 0x39ABDC4529B1661C)
+# of kinds 1 to 6: bytes of an element, elements of a group, draws of a group
+KINDS = {1: (8, 8, 1), 2: (4, 16, 1), 3: (4, 16, 1), 4: (8, 8, 1), 5: (4, 16, 1), 6: (8, 16, 2)}
+NO_KIND = (0, 7, 8, 255, 257, 262, 2**32 + 1, 2**63, M64)
+chance = random.Random(20260102)
+checks = failures = 0
+
+
+def expect(what, found, expected):
+    global checks, failures
+    checks += 1
+    if found != expected:
+        failures += 1
+        if failures <= 20:
+            print(f"  FAILED: {what}: expected {shown(expected)}, found {shown(found)}", flush=True)
+
+
+def shown(x):
+    return x.hex() if isinstance(x, bytes) and len(x) <= 256 else f"{len(x)} bytes, {fnv(x):016x}" if isinstance(x, bytes) else x
+
+
+def fnv(data):
+    total = 0xCBF29CE484222325
+    for byte in data:
+        total = (total ^ byte) * 0x100000001B3 & M64
+    return total
+
+
+# ---- models
+
+
+def rotl(x, n):
+    return (x << n | x >> (64 - n)) & M64
+
+
+def step(s):
+    """One step of xoshiro256++ on the four words in s; the output."""
+    out = (rotl((s[0] + s[3]) & M64, 23) + s[0]) & M64
+    t = s[1] << 17 & M64
+    s[2] ^= s[0]
+    s[3] ^= s[1]
+    s[1] ^= s[2]
+    s[0] ^= s[3]
+    s[2] ^= t
+    s[3] = rotl(s[3], 45)
+    return out
+
+
+def jumped(s):
+    s, total = list(s), [0, 0, 0, 0]
+    for word in JUMP:
+        for bit in range(64):
+            if word >> bit & 1:
+                total = [x ^ y for x, y in zip(total, s)]
+            step(s)
+    return total
+
+
+def seeded(seed):
+    """Four words of SplitMix64."""
+    words = []
+    for i in range(1, 5):
+        z = (seed + i * 0x9E3779B97F4A7C15) & M64
+        z = (z ^ z >> 30) * 0xBF58476D1CE4E5B9 & M64
+        z = (z ^ z >> 27) * 0x94D049BB133111EB & M64
+        words.append(z ^ z >> 31)
+    return words if any(words) else [1, 0, 0, 0]
+
+
+def philox_block(counter, key):
+    """Philox4x32 in ten rounds."""
+    c, (k0, k1) = list(counter), key
+    for _ in range(10):
+        p0, p1 = 0xD2511F53 * c[0], 0xCD9E8D57 * c[2]
+        c = [p1 >> 32 ^ c[1] ^ k0, p1 & M32, p0 >> 32 ^ c[3] ^ k1, p0 & M32]
+        k0, k1 = (k0 + 0x9E3779B9) & M32, (k1 + 0xBB67AE85) & M32
+    return c
+
+
+class Xoshiro:
+    name, length = "xoshiro", 256
+
+    def __init__(self, form):
+        words = struct.unpack("<32Q", form)
+        self.lanes = [list(words[i::8]) for i in range(8)]
+
+    def form(self):
+        return struct.pack("<32Q", *(lane[row] for row in range(4) for lane in self.lanes))
+
+    def draw(self):
+        return [step(lane) for lane in self.lanes]
+
+    @staticmethod
+    def fault(form):
+        if len(form) != 256:
+            return 1
+        return 3 if any(not any(form[at] for row in range(4) for at in range(64 * row + 8 * i, 64 * row + 8 * i + 8)) for i in range(8)) else 0
+
+
+class Philox:
+    name, length = "philox", 96
+
+    def __init__(self, form):
+        self.k0, self.k1, self.stream, self.counter, self.mark, *self.waiting = struct.unpack("<2I11Q", form)
+
+    def form(self):
+        return struct.pack("<2I11Q", self.k0, self.k1, self.stream, self.counter, self.mark, *self.waiting)
+
+    def draw(self):
+        if self.mark:
+            words, self.mark, self.waiting = self.waiting, 0, [0] * 8
+            return words
+        low = []
+        self.mark, self.waiting = 1, []
+        for i in range(8):
+            n = (self.counter + i) & M64
+            w = philox_block((n & M32, n >> 32, self.stream & M32, self.stream >> 32), (self.k0, self.k1))
+            low.append(w[0] | w[1] << 32)
+            self.waiting.append(w[2] | w[3] << 32)
+        self.counter = (self.counter + 8) & M64
+        return low
+
+    @staticmethod
+    def fault(form):
+        if len(form) != 96:
+            return 1
+        mark = int.from_bytes(form[24:32], "little")
+        return 2 if mark > 1 or mark == 0 and any(form[32:]) else 0
+
+
+def halves(words):
+    return [w & M32 for w in words] + [w >> 32 for w in words]
+
+
+def group(kind, draw):
+    """The elements of a group, from draws."""
+    if kind == 1:
+        return draw()
+    if kind == 2:
+        return halves(draw())
+    if kind == 3:
+        return [(h >> 8) / 2**24 for h in halves(draw())]
+    if kind == 4:
+        return [(w >> 12) / 2**52 for w in draw()]
+    if kind == 5:
+        h = halves(draw())
+        pairs = [((h[i] >> 8) / 2**24, (h[8 + i] >> 8) / 2**24) for i in range(8)]
+    else:
+        a, b = draw(), draw()
+        pairs = [((a[i] >> 12) / 2**52, (b[i] >> 12) / 2**52) for i in range(8)]
+    radii = [math.sqrt(-2 * math.log(1 - u)) for u, _ in pairs]
+    return [r * math.cos(math.tau * t) for r, (_, t) in zip(radii, pairs)] + [r * math.sin(math.tau * t) for r, (_, t) in zip(radii, pairs)]
+
+
+def model_fill(model, kind, places):
+    """The draws and the elements, in model numbers."""
+    _, size, draws = KINDS[kind]
+    groups = -(-places // size)
+    elements = [x for _ in range(groups) for x in group(kind, model.draw)]
+    return groups * draws, elements[:places]
+
+
+def held_to(kind, found, elements, what):
+    """Bytes against model numbers: exact but for normals, where the library's own formulas are a few last places off."""
+    code = {1: "Q", 2: "I", 3: "f", 4: "d", 5: "f", 6: "d"}[kind]
+    if kind <= 4:
+        expect(what, found, struct.pack(f"<{len(elements)}{code}", *elements))
+    else:
+        off = max((abs(x - y) for x, y in zip(struct.unpack(f"<{len(elements)}{code}", found), elements)), default=0.0)
+        expect(f"{what}: a normal is {off} off, within the bound", off < (1e-5 if kind == 5 else 1e-13), True)
+
+
+def published():
+    """The models against published vectors: Random123's for Philox, the reference code's for xoshiro256++ and SplitMix64."""
+    expect("model: Philox, zeros", philox_block((0, 0, 0, 0), (0, 0)), [0x6627E8D5, 0xE169C58D, 0xBC57AC4C, 0x9B00DBD8])
+    ones = philox_block((M32, M32, M32, M32), (M32, M32))
+    expect("model: Philox, ones", ones, [0x408F276D, 0x41C83B0E, 0xA20BC7C6, 0x6D5451FD])
+    digits = philox_block((0x243F6A88, 0x85A308D3, 0x13198A2E, 0x03707344), (0xA4093822, 0x299F31D0))
+    expect("model: Philox, digits of pi", digits, [0xD16CFE09, 0x94FDCCEB, 0x5001E420, 0x24126EA1])
+    s = [1, 2, 3, 4]
+    expect("model: xoshiro256++ of 1, 2, 3, 4", [step(s) for _ in range(4)], [41943041, 58720359, 3588806011781223, 3591011842654386])
+    expect("model: SplitMix64 of 1234567", seeded(1234567)[:2], [6457827717110365317, 3203168211198807973])
+
+
+# ---- the library
+
+
+class Lent:
+    """A buffer with noise on both sides of what is lent."""
+
+    def __init__(self, content):
+        self.ends = chance.randbytes(chance.randrange(16, 24)), chance.randbytes(16)
+        self.length = len(content)
+        self.whole = ctypes.create_string_buffer(self.ends[0] + content + self.ends[1], self.length + len(self.ends[0]) + 16)
+        self.at = ctypes.c_void_p(ctypes.addressof(self.whole) + len(self.ends[0]))
+
+    def content(self, what):
+        start = len(self.ends[0])
+        raw = self.whole.raw
+        expect(f"{what}: bytes before", raw[:start], self.ends[0])
+        expect(f"{what}: bytes after", raw[start + self.length :], self.ends[1])
+        return raw[start : start + self.length]
+
+
+def declared(path):
+    lib = ctypes.CDLL(path)
+    u64, size, bytes_at, number_at = ctypes.c_uint64, ctypes.c_size_t, ctypes.c_void_p, ctypes.POINTER(ctypes.c_uint64)
+    for name, words in {
+        "gp_xoshiro_fill": (bytes_at, size, u64, bytes_at, size),
+        "gp_philox_fill": (bytes_at, size, u64, bytes_at, size),
+        "gp_xoshiro_new": (u64, u64, bytes_at, size, number_at),
+        "gp_xoshiro_jump_blocks": (bytes_at, size, u64, number_at),
+        "gp_philox_new": (u64, u64, bytes_at, size),
+        "gp_philox_seek": (bytes_at, size, u64),
+        "gp_philox_draws_left": (bytes_at, size),
+    }.items():
+        call = getattr(lib, name)
+        call.argtypes, call.restype = words, ctypes.c_int64
+    return lib
+
+
+class Host:
+    """The library's calls on bytes: each answers the answer, the number beside it, the form after it and the output."""
+
+    def __init__(self, path):
+        self.lib = declared(path)
+
+    def called(self, name, form, make):
+        f, number = Lent(form), ctypes.c_uint64(987654321)
+        answer = make(getattr(self.lib, name), f.at, len(form), number)
+        return answer, number.value, f.content(f"{name}, form")
+
+    def fill(self, engine, form, kind, out):
+        o, name = Lent(out), f"gp_{engine.name}_fill"
+        answer, _, after = self.called(name, form, lambda call, at, n, _: call(at, n, kind, o.at, len(out)))
+        return answer, after, o.content(f"{name}, output")
+
+    def xoshiro_new(self, seed, block, form):
+        return self.called("gp_xoshiro_new", form, lambda call, at, n, jumps: call(seed, block, at, n, jumps))
+
+    def jump_blocks(self, form, blocks):
+        return self.called("gp_xoshiro_jump_blocks", form, lambda call, at, n, jumps: call(at, n, blocks, jumps))
+
+    def philox_new(self, seed, stream, form):
+        return self.called("gp_philox_new", form, lambda call, at, n, _: call(seed, stream, at, n))
+
+    def seek(self, form, block):
+        return self.called("gp_philox_seek", form, lambda call, at, n, _: call(at, n, block))
+
+    def draws_left(self, form):
+        return self.called("gp_philox_draws_left", form, lambda call, at, n, _: call(at, n))
+
+
+UNTOUCHED = 987654321
+
+
+def try_fill(host, engine, form, kind, length):
+    """One fill, by the rules and the model. The form after it."""
+    what = f"{engine.name} fill, form {form[:40].hex()}.. of {len(form)}, kind {kind}, {length} bytes"
+    before = chance.randbytes(length)
+    answer, after, out = host.fill(engine, form, kind, before)
+    fault = engine.fault(form) or (4 if kind not in KINDS else 5 if length % KINDS[kind][0] else 0)
+    if fault:
+        expect(what, (answer, after, out), (-fault, form, before))
+        return form
+    model = engine(form)
+    draws, elements = model_fill(model, kind, length // KINDS[kind][0])
+    expect(f"{what}, draws", answer, draws)
+    expect(f"{what}, form after", after, model.form())
+    held_to(kind, out, elements, f"{what}, output")
+    return after
+
+
+def try_own(host, engine, form):
+    """One call that this engine alone has."""
+    fault = engine.fault(form)
+    if engine is Xoshiro:
+        # where the length is wrong, so far that a call which is refused only after going there would not end
+        n = 2**50 if fault == 1 else chance.choice((0, 2**61, 5 * 2**61, 1))
+        model = None if fault else Xoshiro(form)
+        for _ in range(0 if fault else 8 * n & M64):
+            model.lanes = [jumped(lane) for lane in model.lanes]
+        expected = (-fault, UNTOUCHED, form) if fault else (0, 8 * n & M64, model.form())
+        found = host.jump_blocks(form, n)
+        expect(f"jump_blocks({n}), form {form.hex()}", found, expected)
+        return found[2]
+    block = chance.choice((0, 8 * chance.randrange(1000), chance.getrandbits(64), M64 - chance.randrange(20), 2**32 - chance.randrange(20)))
+    counter = int.from_bytes(form[16:24], "little")
+    left = 2 * ((2**64 - counter) // 8)
+    expect(f"draws_left, form {form.hex()}", host.draws_left(form), (-fault or left, UNTOUCHED, form))
+    after = form if fault else form[:16] + struct.pack("<Q", block) + bytes(72)
+    expect(f"seek({block}), form {form.hex()}", host.seek(form, block), (-fault, UNTOUCHED, after))
+    return after
+
+
+# ---- the tests
+
+
+def starts(host):
+    for seed in (0, 1, 42, M64, chance.getrandbits(64)):
+        stream = seeded(seed)
+        lanes = [stream]
+        for _ in range(8 * 3 + 7):
+            lanes.append(jumped(lanes[-1]))
+        for block in (0, 1, 2, 3, 2**61, 2**61 + 2, 7 * 2**61 + 3):
+            jumps = 8 * block & M64
+            form = struct.pack("<32Q", *(lanes[jumps + i][row] for row in range(4) for i in range(8)))
+            expect(f"xoshiro_new({seed}, {block})", host.xoshiro_new(seed, block, chance.randbytes(256)), (0, jumps, form))
+        for place in (0, 1, 2**32, M64, chance.getrandbits(64)):
+            form = struct.pack("<2I2Q", seed & M32, seed >> 32, place, 0) + bytes(72)
+            expect(f"philox_new({seed}, {place})", host.philox_new(seed, place, chance.randbytes(96)), (0, UNTOUCHED, form))
+    for length in (0, 1, 95, 96, 97, 192, 255, 256, 257, 512):
+        noise = chance.randbytes(length)
+        if length != 256:
+            expect(f"xoshiro_new, form length {length}", host.xoshiro_new(1, 2**50, noise), (-1, UNTOUCHED, noise))
+        if length != 96:
+            expect(f"philox_new, form length {length}", host.philox_new(1, 2, noise), (-1, UNTOUCHED, noise))
+
+
+def good_form(engine):
+    form = chance.randbytes(engine.length)
+    if engine is Philox:
+        counter = chance.choice((0, chance.getrandbits(64), M64 - chance.randrange(300), 2**32 - chance.randrange(300)))
+        mark = chance.randrange(2)
+        form = form[:16] + struct.pack("<2Q", counter, mark) + (form[32:] if mark else bytes(64))
+    return form
+
+
+def lists(host, engine, count):
+    """Lists of calls on one form. Some are refused, for the kind, the length or a form that is damaged for the one call."""
+    for _ in range(count):
+        form = good_form(engine)
+        for _ in range(12):
+            kind = chance.choice((1, 2, 3, 4, 5, 6))
+            length = KINDS[kind][0] * chance.choice((0, 1, chance.randrange(40), 16 * chance.randrange(8), chance.randrange(300)))
+            choice = chance.randrange(12)
+            if choice < 8:
+                form = try_fill(host, engine, form, kind, length)
+            elif choice < 9:
+                form = try_fill(host, engine, form, kind, length + chance.randrange(1, 4))
+            elif choice < 10:
+                form = try_fill(host, engine, form, chance.choice(NO_KIND), length)
+            else:
+                form = try_own(host, engine, form)
+
+
+def damaged(engine):
+    """Good forms and forms damaged in many ways: another length; every byte; marks; lanes, words and all but one byte of a lane zeroed."""
+    for _ in range(3):
+        form = good_form(engine)
+        yield form
+        for length in (0, 1, engine.length - 1, engine.length + 1, 2 * engine.length, 352 - engine.length):
+            yield (form + chance.randbytes(engine.length))[:length]
+        for at in range(engine.length):
+            for value in {0, 1, 2, 128, 255, chance.randrange(256)}:
+                yield form[:at] + bytes([value]) + form[at + 1 :]
+        if engine is Philox:
+            for mark in (0, 1, 2, 3, 256, 257, 2**32, 2**32 + 1, 2**63, M64):
+                yield form[:24] + struct.pack("<Q", mark) + form[32:]
+                yield form[:24] + struct.pack("<Q", mark) + bytes(64)
+            continue
+        for lane in range(8):
+            places = [64 * row + 8 * lane + i for row in range(4) for i in range(8)]
+            for spared in [None] + places:
+                yield bytes(0 if at in places and at != spared else byte or 1 for at, byte in enumerate(form))
+        for word in range(32):
+            yield form[: 8 * word] + bytes(8) + form[8 * word + 8 :]
+        yield bytes(256)
+
+
+def refusals(host, engine):
+    for form in damaged(engine):
+        kind = chance.choice((1, 2, 3, 4, 5, 6) + NO_KIND)
+        try_fill(host, engine, form, kind, chance.choice((0, 4, 8, 64, 65, 66)))
+        if engine.fault(form) or engine is Philox:
+            try_own(host, engine, form)
+    form = good_form(engine)
+    for kind in (*KINDS, *NO_KIND):
+        for length in range(70):
+            try_fill(host, engine, form, kind, length)
+
+
+def replayed(host, path):
+    """The Rust's answers, call by call."""
+    engine, form = None, b""
+    with open(path) as file:
+        lines = [line.split() for line in file]
+    expect(f"{path}: 500 lines or more", len(lines) >= 500, True)
+    for call, *words in lines:
+        a, b, answer, number = map(int, words[:4])
+        out = b""
+        if call == "fill":
+            found, form, out = host.fill(engine, form, a, bytes(b * KINDS[a][0]))
+            beside = 0
+        elif call == "xoshiro":
+            engine, (found, beside, form) = Xoshiro, host.xoshiro_new(a, b, bytes(256))
+        elif call == "philox":
+            engine, (found, _, form) = Philox, host.philox_new(a, b, bytes(96))
+        elif call == "jump_blocks":
+            found, beside, form = host.jump_blocks(form, a)
+        else:
+            found, _, form = host.seek(form, a)
+        if engine is Philox:
+            beside = host.draws_left(form)[0]
+        expect(f"{call} {a} {b}", [found, beside, f"{fnv(out):016x}", f"{fnv(form):016x}"], [answer, number, *words[4:]])
+
+
+def main(library, expected):
+    host = Host(library)
+    published()
+    starts(host)
+    for engine in Xoshiro, Philox:
+        lists(host, engine, 60)
+        refusals(host, engine)
+    replayed(host, expected)
+    print(f"  host.py: {checks} checks, {failures} failures")
+    return failures != 0
+
+
+if __name__ == "__main__":
+    sys.exit(main(*sys.argv[1:]))

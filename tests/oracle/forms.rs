@@ -1,0 +1,87 @@
+//! What the C library should answer, from the Rust: its generators laid out as the scope document's saved forms, and its fills as bytes. The
+//! Rust counts no draws: that number is the scope document's.
+#![allow(dead_code)] // each of the two programs uses a part of it
+use tpt_simd_rng::{Philox4x32X8, Rng8, Xoshiro256ppX8};
+
+/// A row of the table of kinds: an element has `width` bytes, and a group of `places` elements takes `draws` draws.
+pub struct Kind {
+    pub width: usize,
+    pub places: usize,
+    pub draws: usize,
+}
+/// Kind 1 first.
+pub const KINDS: [Kind; 6] = [
+    Kind { width: 8, places: 8, draws: 1 },
+    Kind { width: 4, places: 16, draws: 1 },
+    Kind { width: 4, places: 16, draws: 1 },
+    Kind { width: 8, places: 8, draws: 1 },
+    Kind { width: 4, places: 16, draws: 1 },
+    Kind { width: 8, places: 16, draws: 2 },
+];
+
+pub fn kind(number: u64) -> Option<&'static Kind> {
+    KINDS.get(number.checked_sub(1)? as usize)
+}
+
+fn bytes<T: Copy + Default, const W: usize>(n: usize, fill: impl FnOnce(&mut [T]), le: impl Fn(T) -> [u8; W]) -> Vec<u8> {
+    let mut out = vec![T::default(); n];
+    fill(&mut out);
+    out.into_iter().flat_map(le).collect()
+}
+
+/// The draws of a fill of n elements, and their bytes.
+pub fn filled<R: Rng8>(rust: &mut R, number: u64, n: usize) -> (i64, Vec<u8>) {
+    let out = match number {
+        1 => bytes(n, |out| rust.fill_u64(out), u64::to_le_bytes),
+        2 => bytes(n, |out| rust.fill_u32(out), u32::to_le_bytes),
+        3 => bytes(n, |out| rust.fill_f32(out), f32::to_le_bytes),
+        4 => bytes(n, |out| rust.fill_f64(out), f64::to_le_bytes),
+        5 => bytes(n, |out| rust.fill_normal_f32(out), f32::to_le_bytes),
+        _ => bytes(n, |out| rust.fill_normal_f64(out), f64::to_le_bytes),
+    };
+    let kind = kind(number).expect("a kind");
+    ((kind.draws * n.div_ceil(kind.places)) as i64, out)
+}
+
+pub trait Saved: Rng8 {
+    fn form(&self) -> Vec<u8>;
+}
+
+impl Saved for Xoshiro256ppX8 {
+    fn form(&self) -> Vec<u8> {
+        let lanes = [0, 1, 2, 3, 4, 5, 6, 7].map(|i| self.lane(i).state());
+        (0..4).flat_map(|row| lanes.iter().flat_map(move |lane| lane[row].to_le_bytes())).collect()
+    }
+}
+
+/// The Rust shows all its fields as text alone.
+fn philox_numbers(rust: &Philox4x32X8) -> Vec<u64> {
+    let text = format!("{rust:?}");
+    let fields = text.strip_prefix("Philox4x32X8 { key: ").expect("the fields of a Philox generator");
+    let numbers: Vec<u64> = fields.split(|c: char| !c.is_ascii_digit()).filter_map(|word| word.parse().ok()).collect();
+    assert_eq!(numbers.len(), if fields.ends_with("pending: None }") { 4 } else { 12 }, "{text}");
+    numbers
+}
+
+impl Saved for Philox4x32X8 {
+    fn form(&self) -> Vec<u8> {
+        let numbers = philox_numbers(self);
+        let mut form = Vec::new();
+        for half in &numbers[..2] {
+            form.extend((*half as u32).to_le_bytes()); // the key
+        }
+        for word in [numbers[2], numbers[3], u64::from(numbers.len() > 4)] {
+            form.extend(word.to_le_bytes()); // stream, counter, mark
+        }
+        for i in 4..12 {
+            form.extend(numbers.get(i).unwrap_or(&0).to_le_bytes()); // the waiting words
+        }
+        form
+    }
+}
+
+/// 2 x floor((2^64 - counter) / 8)
+pub fn draws_left(rust: &Philox4x32X8) -> i64 {
+    let counter = u128::from(philox_numbers(rust)[3]);
+    (2 * (((1 << 64) - counter) / 8)) as i64
+}

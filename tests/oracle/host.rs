@@ -1,0 +1,314 @@
+//! The C library, linked as a static library, against the Rust's: the same calls on both sides, and after each of them the same bits in
+//! the output and around it, the answer that the scope document gives, and a saved form that is the Rust's generator laid out (forms.rs).
+//! The argument is how many lists of mixed calls each engine gets.
+mod forms;
+use forms::{draws_left, filled, kind, Saved};
+use tpt_simd_rng::{Philox4x32X8, Xoshiro256pp, Xoshiro256ppX8};
+
+type Fill = unsafe extern "C" fn(*mut u8, usize, u64, *mut u8, usize) -> i64;
+extern "C" {
+    fn gp_xoshiro_fill(form: *mut u8, form_len: usize, kind: u64, out: *mut u8, out_len: usize) -> i64;
+    fn gp_philox_fill(form: *mut u8, form_len: usize, kind: u64, out: *mut u8, out_len: usize) -> i64;
+    fn gp_xoshiro_new(seed: u64, block: u64, form: *mut u8, form_len: usize, jumps: *mut u64) -> i64;
+    fn gp_xoshiro_jump_blocks(form: *mut u8, form_len: usize, n: u64, jumps: *mut u64) -> i64;
+    fn gp_philox_new(seed: u64, stream: u64, form: *mut u8, form_len: usize) -> i64;
+    fn gp_philox_seek(form: *mut u8, form_len: usize, block: u64) -> i64;
+    fn gp_philox_draws_left(form: *const u8, form_len: usize) -> i64;
+}
+
+/// SplitMix64, for the choice of calls and for noise.
+struct Random(u64);
+impl Random {
+    fn next(&mut self) -> u64 {
+        self.0 = self.0.wrapping_add(0x9E37_79B9_7F4A_7C15);
+        let z = (self.0 ^ (self.0 >> 30)).wrapping_mul(0xBF58_476D_1CE4_E5B9);
+        let z = (z ^ (z >> 27)).wrapping_mul(0x94D0_49BB_1331_11EB);
+        z ^ (z >> 31)
+    }
+    fn below(&mut self, n: u64) -> u64 {
+        (u128::from(self.next()) * u128::from(n) >> 64) as u64
+    }
+    fn of(&mut self, choices: &[u64]) -> u64 {
+        choices[self.below(choices.len() as u64) as usize]
+    }
+    fn bytes(&mut self, n: usize) -> Vec<u8> {
+        (0..n).map(|_| self.next() as u8).collect()
+    }
+}
+
+/// What was compared, and what differed.
+#[derive(Default)]
+struct Count {
+    fills: u64,
+    elements: u64,
+    refused: u64,
+    others: u64,
+    differences: u64,
+}
+impl Count {
+    fn differ(&mut self, what: String) {
+        self.differences += 1;
+        if self.differences <= 5 {
+            println!("  DIFFERENCE: {what}");
+        }
+    }
+    fn same<T: PartialEq + std::fmt::Debug>(&mut self, what: &str, ours: T, expected: T) {
+        if ours != expected {
+            self.differ(format!("{what}: {ours:?} and not {expected:?}"));
+        }
+    }
+    fn report(&self, name: &str) -> u64 {
+        println!(
+            "  {name}: {} fills, {} elements compared, {} calls refused, {} other calls, {} differences",
+            self.fills, self.elements, self.refused, self.others, self.differences
+        );
+        self.differences
+    }
+}
+
+/// What a call is lent, between two ends of noise.
+struct Lent {
+    whole: Vec<u8>,
+    guard: usize,
+}
+impl Lent {
+    fn new(content: &[u8]) -> Self {
+        let guard = 16 + content.len() % 8; // so that a lent buffer begins at any place of a word
+        let ends = Random(content.len() as u64).bytes(2 * guard);
+        Lent { whole: [&ends[..guard], content, &ends[guard..]].concat(), guard }
+    }
+    fn at(&mut self) -> *mut u8 {
+        self.whole[self.guard..].as_mut_ptr()
+    }
+    fn len(&self) -> usize {
+        self.whole.len() - 2 * self.guard
+    }
+    /// After a call: the content expected, and both ends as they were.
+    fn check(&self, what: impl Fn() -> String, expected: &[u8], count: &mut Count) {
+        let after = Lent::new(expected).whole;
+        assert_eq!(after.len(), self.whole.len());
+        if let Some(k) = (0..after.len()).find(|&k| self.whole[k] != after[k]) {
+            let place = k as i64 - self.guard as i64;
+            count.differ(format!("{}: byte {place} of {} is {:02x} and not {:02x}", what(), self.len(), self.whole[k], after[k]));
+        }
+    }
+}
+
+/// A number that a refused call leaves as it was.
+const UNTOUCHED: u64 = 987_654_321;
+
+/// A form beside the Rust's generator. `refusal` is 0, or the number for which every call on this form is refused: then nothing happens on
+/// the Rust's side.
+struct Pair<'a, R> {
+    form: &'a mut Vec<u8>,
+    rust: &'a mut R,
+    refusal: i64,
+}
+
+impl<R: Engine> Pair<'_, R> {
+    /// After a call: its answer, or minus the refusal; and the form, which is the Rust's generator, or what it was.
+    fn check(&mut self, what: impl Fn() -> String, ours: (i64, Lent), expected: i64, count: &mut Count) {
+        let (answer, form) = ours;
+        let expected = if self.refusal == 0 { expected } else { -self.refusal };
+        if self.refusal == 0 {
+            *self.form = self.rust.form();
+        } else {
+            count.refused += 1;
+        }
+        if answer != expected {
+            count.differ(format!("{} {}: the answer is {answer} and not {expected}", R::NAME, what()));
+        }
+        form.check(|| format!("{} {}, the form", R::NAME, what()), self.form, count);
+    }
+
+    fn fill(mut self, number: u64, length: usize, random: &mut Random, count: &mut Count) {
+        let noise = random.bytes(length);
+        let (mut form, mut out) = (Lent::new(self.form), Lent::new(&noise));
+        let answer = unsafe { R::FILL(form.at(), form.len(), number, out.at(), out.len()) };
+        if self.refusal == 0 {
+            self.refusal = kind(number).map_or(4, |kind| if length % kind.width == 0 { 0 } else { 5 });
+        }
+        let (draws, after) = if self.refusal == 0 {
+            let n = length / kind(number).expect("a kind").width;
+            count.fills += 1;
+            count.elements += n as u64;
+            filled(self.rust, number, n)
+        } else {
+            (0, noise)
+        };
+        let what = || format!("fill of kind {number}, {length} bytes");
+        self.check(what, (answer, form), draws, count);
+        out.check(|| format!("{} {}, the output", R::NAME, what()), &after, count);
+    }
+}
+
+trait Engine: Saved + Sized {
+    const NAME: &'static str;
+    const FILL: Fill;
+    /// A random start, on both sides.
+    fn start(random: &mut Random, count: &mut Count) -> (Vec<u8>, Self);
+    /// A random call that this engine alone has.
+    fn own_call(pair: Pair<Self>, random: &mut Random, count: &mut Count);
+    /// Makes a form of the right length one that is refused, and answers the number.
+    fn damage(form: &mut [u8], random: &mut Random) -> i64;
+}
+
+// ---- xoshiro
+
+/// So many blocks are 2^64 jumps, which both sides take for none.
+const ROUND: u64 = 1 << 61;
+
+impl Engine for Xoshiro256ppX8 {
+    const NAME: &'static str = "xoshiro";
+    const FILL: Fill = gp_xoshiro_fill;
+
+    /// From a seed and a block, or from lanes of any words, some of them zero.
+    fn start(random: &mut Random, count: &mut Count) -> (Vec<u8>, Self) {
+        if random.below(4) == 0 {
+            let word = |random: &mut Random| random.next() * random.below(2);
+            let lane = |random: &mut Random| Xoshiro256pp::from_state([word(random), random.next() | 1, word(random), word(random)]);
+            let rust = Xoshiro256ppX8::from_lanes(&[(); 8].map(|()| lane(random)));
+            return (rust.form(), rust);
+        }
+        let (seed, block) = (random.next(), random.below(4) + ROUND * random.below(8));
+        let (mut form, mut rust, mut jumps) = (random.bytes(256), Xoshiro256ppX8::from_seed_block(seed, block), UNTOUCHED);
+        let mut lent = Lent::new(&form);
+        let answer = unsafe { gp_xoshiro_new(seed, block, lent.at(), lent.len(), &mut jumps) };
+        let what = || format!("new({seed}, {block})");
+        count.others += 1;
+        count.same(&what(), jumps, block.wrapping_mul(8));
+        Pair { form: &mut form, rust: &mut rust, refusal: 0 }.check(what, (answer, lent), 0, count);
+        (form, rust)
+    }
+
+    fn own_call(mut pair: Pair<Self>, random: &mut Random, count: &mut Count) {
+        let n = random.of(&[0, 1, 2, 3, ROUND, ROUND + 1, 5 * ROUND + 2]);
+        let (mut form, mut jumps) = (Lent::new(pair.form), UNTOUCHED);
+        let answer = unsafe { gp_xoshiro_jump_blocks(form.at(), form.len(), n, &mut jumps) };
+        let expected = if pair.refusal == 0 { n.wrapping_mul(8) } else { UNTOUCHED };
+        if pair.refusal == 0 {
+            pair.rust.jump_blocks(n);
+        }
+        count.others += 1;
+        count.same(&format!("xoshiro jump_blocks({n}), jumps"), jumps, expected);
+        pair.check(|| format!("jump_blocks({n})"), (answer, form), 0, count);
+    }
+
+    fn damage(form: &mut [u8], random: &mut Random) -> i64 {
+        let lane = 8 * random.below(8) as usize;
+        for row in 0..4 {
+            form[64 * row + lane..64 * row + lane + 8].fill(0);
+        }
+        3
+    }
+}
+
+// ---- Philox
+
+impl Engine for Philox4x32X8 {
+    const NAME: &'static str = "Philox";
+    const FILL: Fill = gp_philox_fill;
+
+    fn start(random: &mut Random, count: &mut Count) -> (Vec<u8>, Self) {
+        let (seed, stream) = (random.next(), random.next() >> random.of(&[0, 40, 63]));
+        let (mut form, mut rust) = (random.bytes(96), Philox4x32X8::new(seed, stream));
+        let mut lent = Lent::new(&form);
+        let answer = unsafe { gp_philox_new(seed, stream, lent.at(), lent.len()) };
+        count.others += 1;
+        Pair { form: &mut form, rust: &mut rust, refusal: 0 }.check(|| format!("new({seed}, {stream})"), (answer, lent), 0, count);
+        (form, rust)
+    }
+
+    fn own_call(mut pair: Pair<Self>, random: &mut Random, count: &mut Count) {
+        count.others += 1;
+        let mut form = Lent::new(pair.form);
+        if random.below(2) == 0 {
+            let answer = unsafe { gp_philox_draws_left(form.at(), form.len()) };
+            let left = draws_left(pair.rust);
+            return pair.check(|| "draws_left".to_string(), (answer, form), left, count);
+        }
+        let (small, high) = (random.below(300), random.next() << 32);
+        let block = random.of(&[small, u64::MAX - small, high.wrapping_sub(small)]);
+        let answer = unsafe { gp_philox_seek(form.at(), form.len(), block) };
+        if pair.refusal == 0 {
+            pair.rust.seek(block);
+        }
+        pair.check(|| format!("seek({block})"), (answer, form), 0, count);
+    }
+
+    /// A mark that is neither 0 nor 1, or mark 0 with a byte among the waiting words.
+    fn damage(form: &mut [u8], random: &mut Random) -> i64 {
+        let mark = random.of(&[0, 2, 3, 255, 256, 257, 1 << 32, (1 << 32) + 1, 1 << 63, u64::MAX]);
+        form[24..32].copy_from_slice(&mark.to_le_bytes());
+        form[32 + random.below(64) as usize] = 1 << random.below(8);
+        2
+    }
+}
+
+// ---- the runs
+
+const UNKNOWN: [u64; 8] = [0, 7, 8, 255, 257, (1 << 32) + 1, 1 << 63, u64::MAX];
+
+fn random_length(random: &mut Random) -> usize {
+    let n = match random.below(4) {
+        0 | 1 => random.below(70),
+        2 => random.below(1100),
+        _ => (8 * random.below(280)).saturating_add_signed(random.below(5) as i64 - 2),
+    };
+    n as usize
+}
+
+/// Any call on a form that is refused: damaged, of another length, or both.
+fn refused<R: Engine>(form: &[u8], rust: &mut R, random: &mut Random, count: &mut Count) {
+    let mut form = form.to_vec();
+    let right = form.len();
+    let mut refusal = R::damage(&mut form, random);
+    if random.below(2) == 0 {
+        refusal = 1;
+        let other = random.of(&[0, 8, right as u64 - 1, right as u64 + 1, 2 * right as u64, 352 - right as u64]) as usize;
+        form.resize(other, 7);
+    }
+    let pair = Pair { form: &mut form, rust, refusal };
+    match random.below(3) {
+        0 => R::own_call(pair, random, count),
+        1 => pair.fill(1 + random.below(6), random_length(random), random, count),
+        _ => pair.fill(random.of(&UNKNOWN), random_length(random), random, count),
+    }
+}
+
+/// A list of forty calls on one form, or as many as agree.
+fn list<R: Engine>(random: &mut Random, count: &mut Count) {
+    let before = count.differences;
+    let (mut form, mut rust) = R::start(random, count);
+    for _ in 0..40 {
+        let n = random_length(random);
+        let number = 1 + random.below(6);
+        let width = kind(number).expect("a kind").width;
+        let pair = Pair { form: &mut form, rust: &mut rust, refusal: 0 };
+        match random.below(10) {
+            0..=5 => pair.fill(number, n * width, random, count),
+            6 => pair.fill(number, n, random, count),
+            7 => pair.fill(random.of(&UNKNOWN), n, random, count),
+            8 => refused(&form, &mut rust, random, count),
+            _ => R::own_call(pair, random, count),
+        }
+        if count.differences != before {
+            return;
+        }
+    }
+}
+
+fn run<R: Engine>(lists: u64, random: &mut Random) -> u64 {
+    let mut count = Count::default();
+    for _ in 0..lists {
+        list::<R>(random, &mut count);
+    }
+    count.report(&format!("{}, {lists} lists of mixed calls", R::NAME))
+}
+
+fn main() {
+    let lists = std::env::args().nth(1).and_then(|n| n.parse().ok()).expect("how many lists of mixed calls an engine");
+    let random = &mut Random(20_260_103);
+    let differences = run::<Xoshiro256ppX8>(lists, random) + run::<Philox4x32X8>(lists, random);
+    std::process::exit(i32::from(differences != 0));
+}

@@ -1,0 +1,110 @@
+//! Writes the Rust's answers for tests/host. With `calls`: lists of calls on the C library, tests/host/expected.txt. With `paths`: what
+//! examples/paths prints, tests/host/paths.txt. Buffers are given by their digests, 64-bit FNV-1a.
+mod forms;
+use forms::{draws_left, filled, Saved};
+use tpt_simd_rng::{Philox4x32X8, Rng8, Xoshiro256ppX8};
+
+const EMPTY: u64 = 0xcbf2_9ce4_8422_2325;
+fn digest(start: u64, bytes: &[u8]) -> u64 {
+    bytes.iter().fold(start, |sum, byte| (sum ^ u64::from(*byte)).wrapping_mul(0x0100_0000_01b3))
+}
+
+/// Writes a line: a call and its two arguments, then the answer, the number beside it, and the digests of output and form.
+fn line(call: &str, a: u64, b: u64, answer: i64, number: u64, out: &[u8], form: &[u8]) {
+    println!("{call} {a} {b} {answer} {number} {:016x} {:016x}", digest(EMPTY, out), digest(EMPTY, form));
+}
+
+struct Xoshiro(Xoshiro256ppX8);
+impl Xoshiro {
+    fn start(seed: u64, block: u64) -> Self {
+        let rust = Xoshiro256ppX8::from_seed_block(seed, block);
+        line("xoshiro", seed, block, 0, block.wrapping_mul(8), &[], &rust.form());
+        Xoshiro(rust)
+    }
+    fn jump_blocks(&mut self, n: u64) {
+        self.0.jump_blocks(n);
+        line("jump_blocks", n, 0, 0, n.wrapping_mul(8), &[], &self.0.form());
+    }
+    fn fill(&mut self, kind: u64, places: u64) {
+        let (draws, out) = filled(&mut self.0, kind, places as usize);
+        line("fill", kind, places, draws, 0, &out, &self.0.form());
+    }
+}
+
+struct Philox(Philox4x32X8);
+impl Philox {
+    fn line(&self, call: &str, a: u64, b: u64, answer: i64, out: &[u8]) {
+        line(call, a, b, answer, draws_left(&self.0) as u64, out, &self.0.form());
+    }
+    fn start(seed: u64, stream: u64) -> Self {
+        let rust = Philox(Philox4x32X8::new(seed, stream));
+        rust.line("philox", seed, stream, 0, &[]);
+        rust
+    }
+    fn seek(&mut self, block: u64) {
+        self.0.seek(block);
+        self.line("seek", block, 0, 0, &[]);
+    }
+    fn fill(&mut self, kind: u64, places: u64) {
+        let (draws, out) = filled(&mut self.0, kind, places as usize);
+        self.line("fill", kind, places, draws, &out);
+    }
+}
+
+/// Lengths about the ends of groups, and about 64 draws, which the library makes ahead.
+const LENGTHS: [u64; 20] = [0, 1, 7, 8, 9, 15, 16, 17, 24, 31, 33, 64, 500, 511, 513, 1023, 1024, 1025, 1040, 3001];
+
+fn every_length(mut fill: impl FnMut(u64, u64)) {
+    for kind in 1..=6 {
+        for places in LENGTHS {
+            fill(kind, places);
+        }
+    }
+}
+
+fn calls() {
+    let round = 1 << 61; // so many blocks are 2^64 jumps, which count as none
+    for (seed, block) in [(0, 0), (0x0123_4567_89ab_cdef, round + 3)] {
+        let mut g = Xoshiro::start(seed, block);
+        every_length(|kind, places| g.fill(kind, places));
+    }
+    let mut g = Xoshiro::start(u64::MAX, 2);
+    for (i, n) in [1, 0, 2, round, 7 * round + 1, 13].into_iter().enumerate() {
+        g.jump_blocks(n);
+        g.fill(6 - i as u64, 37 + 50 * n % 99);
+    }
+
+    let mut g = Philox::start(0, 0);
+    every_length(|kind, places| g.fill(kind, places));
+    let mut g = Philox::start(0x0123_4567_89ab_cdef, 1 << 32);
+    g.seek(0_u64.wrapping_sub(4004)); // the counter passes 2^64 among the fills
+    g.fill(1, 8); // words wait
+    every_length(|kind, places| g.fill(kind, places));
+    let mut g = Philox::start(u64::MAX, u64::MAX);
+    for (i, block) in [5, 0, 1 << 32, (1 << 32) - 3, 1 << 63, u64::MAX - 8, u64::MAX - 7, u64::MAX].into_iter().enumerate() {
+        g.seek(block);
+        g.fill(1 + i as u64 % 6, 8 * (i as u64 % 3) + 1);
+        g.fill(1 + i as u64 % 5, 40 + i as u64);
+    }
+}
+
+/// The order that examples/paths has by default, all its normals at once.
+fn paths() {
+    let (seed, block, paths, years) = (42, 0, 10_000, 40);
+    let (draws, out) = filled(&mut Xoshiro256ppX8::from_seed_block(seed, block), 6, paths * years);
+    let mut normals = vec![0.0; paths * years];
+    Xoshiro256ppX8::from_seed_block(seed, block).fill_normal_f64(&mut normals);
+    let above = normals.chunks(years).filter(|path| path.iter().fold(100.0, |fund, z| fund * (1.0 + (0.04 + 0.12 * z))) > 100.0).count();
+    println!("seed {seed}, block {block}: {paths} paths of {years} years");
+    println!("draws made: {draws}");
+    println!("digest of the normals: {:016x}", digest(EMPTY, &out));
+    println!("paths that end above the start: {above}");
+}
+
+fn main() {
+    match std::env::args().nth(1).as_deref() {
+        Some("calls") => calls(),
+        Some("paths") => paths(),
+        _ => panic!("calls or paths"),
+    }
+}
