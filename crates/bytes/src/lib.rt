@@ -1,7 +1,7 @@
 // Words as little-endian bytes, stored in a slice and read from one.
 ghost use mathlib.Core.List.{_++_};
 ghost use mathlib.Core.Path.{_≡_};
-ghost use Prim.Native.Nat.{_+_, _-_, _<_, min};
+ghost use Prim.Native.Nat.{_+_, _-_, _<_, _≤_, min};
 ghost use lib.ListN.{length, take, drop};
 ghost use Rattle.base.specs.Bytes.{leBytes, leNat, flat};
 ghost use Rattle.base.specs.Stored.{stored};
@@ -66,12 +66,26 @@ pub fn put_word(out: &mut [u8], at: usize, x: u64)
     put8(out, at, le8(x));
 }
 
-// The same of eight words, one after another.
+// Stores the bytes of eight words that have room.
+fn put_whole(out: &mut [u8], at: usize, v: [u64; 8])
+    requires { ⌜ at + 64 ≤ length (now out) ⌝ }
+    ensures { λ _. ⌜ now (out .exit) ≡ stored (now (out .entry)) at (flat (leBytes 8) v) ⌝ }
+{
+    for i in 0..8 {
+        put8_n(out, at + i * 8, le8(v[i]), 8);
+    }
+}
+
+// Stores the bytes of eight words, one after another, from place `at` on, as far as `out` has places.
 pub fn put_words(out: &mut [u8], at: usize, v: [u64; 8])
     ensures { λ _. ⌜ now (out .exit) ≡ stored (now (out .entry)) at (flat (leBytes 8) v) ⌝ }
 {
     if out.len() <= at {
         return;
+    }
+    // a whole group needs no test for each word
+    if 64 <= out.len() - at {
+        return put_whole(out, at, v);
     }
     for i in 0..8 {
         put_word(out, at + i * 8, v[i]);

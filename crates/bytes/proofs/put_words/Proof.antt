@@ -5,6 +5,7 @@ use Rattle.base.proofs.Stored.{stored-out}
 use Rattle.base.specs.Bytes.{leBytes}
 use borrow.Author.Needs.{needs}
 use mathlib.Core.Path.{refl}
+use native.Mathlib.Omega.{arith}
 use Rattle.bytes.proofs.put_words.Statement.{statement}
 use Rattle.bytes.proofs.put_words.Tie as tie
 
@@ -23,4 +24,4 @@ loop-again c =
     flat-more (p .before .before .before .loop .inv) (search needs) 0 refl refl (p .put-word .ensures)
 
 pub put-words-spec : {M : Type 1} → statement M
-put-words-spec = tie.close (tie.spec Inv-loop μ-loop returns (λ c. flat-none (length-leBytes 8)) (λ c. search needs) (λ c. search needs) (λ c. search needs) (λ c. search needs) (λ c κs. search needs) (λ c. search needs) (λ c. search needs) loop-again (λ c. search needs) (λ c. flat-end (c .before .loop .inv) (search needs)))
+put-words-spec = tie.close (tie.spec Inv-loop μ-loop returns (λ c. search needs) (λ c κs. omega arith) (λ c. search needs) (λ c. search needs) (λ c. flat-none (length-leBytes 8)) (λ c. search needs) (λ c. search needs) (λ c. search needs) (λ c. search needs) (λ c κs. search needs) (λ c. search needs) (λ c. search needs) loop-again (λ c. search needs) (λ c. flat-end (c .before .loop .inv) (search needs)))
