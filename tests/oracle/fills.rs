@@ -1,49 +1,9 @@
 //! Our engines and their fills, linked as static libraries, against the Rust's: the same calls on both sides, and after each of them the
 //! same bits in the lent buffer and around it, the same words handed out, and the same generator. The Rust counts neither draws nor jumps
 //! and refuses nothing: those numbers are the scope document's. The argument is how many lists of mixed calls each engine gets.
+mod common;
+use common::{Count, Random};
 use tpt_simd_rng::{Philox4x32X8, Rng8, Xoshiro256ppX8};
-
-/// SplitMix64, for the choice of calls and for what stands in a buffer before a fill.
-struct Random(u64);
-impl Random {
-    fn next(&mut self) -> u64 {
-        self.0 = self.0.wrapping_add(0x9E37_79B9_7F4A_7C15);
-        let z = (self.0 ^ (self.0 >> 30)).wrapping_mul(0xBF58_476D_1CE4_E5B9);
-        let z = (z ^ (z >> 27)).wrapping_mul(0x94D0_49BB_1331_11EB);
-        z ^ (z >> 31)
-    }
-    fn below(&mut self, n: u64) -> u64 {
-        (u128::from(self.next()) * u128::from(n) >> 64) as u64
-    }
-    fn of(&mut self, choices: &[u64]) -> u64 {
-        choices[self.below(choices.len() as u64) as usize]
-    }
-}
-
-/// What was compared, and what differed.
-#[derive(Default)]
-struct Count {
-    fills: u64,
-    elements: u64,
-    refused: u64,
-    others: u64,
-    differences: u64,
-}
-impl Count {
-    fn differ(&mut self, what: String) {
-        self.differences += 1;
-        if self.differences <= 5 {
-            println!("  DIFFERENCE: {what}");
-        }
-    }
-    fn report(&self, name: &str) -> u64 {
-        println!(
-            "  {name}: {} fills, {} elements compared, {} fills refused, {} other calls, {} differences",
-            self.fills, self.elements, self.refused, self.others, self.differences
-        );
-        self.differences
-    }
-}
 
 /// A row of the table of kinds: an element has `width` bytes, and a group of `places` elements takes `draws` draws.
 struct Kind {

@@ -1,21 +1,9 @@
 //! Our float calls, linked as a static library, against the Rust's: the same bits for the same bits, at every lane. Inputs are random
 //! patterns of each call's domain, patterns with one lane of any kind, and every boundary at every lane; what a call should
 //! refuse is told here from the fields of the pattern. The argument is how many random lanes each function gets.
+mod common;
+use common::Random;
 use tpt_simd_rng::{math, u32_to_unit_f32, u64_to_unit_f64};
-
-/// SplitMix64, for inputs only.
-struct Random(u64);
-impl Random {
-    fn next(&mut self) -> u64 {
-        self.0 = self.0.wrapping_add(0x9E37_79B9_7F4A_7C15);
-        let z = (self.0 ^ (self.0 >> 30)).wrapping_mul(0xBF58_476D_1CE4_E5B9);
-        let z = (z ^ (z >> 27)).wrapping_mul(0x94D0_49BB_1331_11EB);
-        z ^ (z >> 31)
-    }
-    fn below(&mut self, n: u64) -> u64 {
-        (u128::from(self.next()) * u128::from(n) >> 64) as u64
-    }
-}
 
 /// How many lanes were compared, how many calls were refused, and what differed.
 #[derive(Default)]

@@ -1,7 +1,9 @@
 //! The C library, linked as a static library, against the Rust's: the same calls on both sides, and after each of them the same bits in
 //! the output and around it, the answer that the scope document gives, and a saved form that is the Rust's generator laid out (forms.rs).
 //! The argument is how many lists of mixed calls each engine gets.
+mod common;
 mod forms;
+use common::{Count, Random};
 use forms::{draws_left, filled, kind, Saved};
 use tpt_simd_rng::{Philox4x32X8, Xoshiro256pp, Xoshiro256ppX8};
 
@@ -14,56 +16,6 @@ extern "C" {
     fn gp_philox_new(seed: u64, stream: u64, form: *mut u8, form_len: usize) -> i64;
     fn gp_philox_seek(form: *mut u8, form_len: usize, block: u64) -> i64;
     fn gp_philox_draws_left(form: *const u8, form_len: usize) -> i64;
-}
-
-/// SplitMix64, for the choice of calls and for noise.
-struct Random(u64);
-impl Random {
-    fn next(&mut self) -> u64 {
-        self.0 = self.0.wrapping_add(0x9E37_79B9_7F4A_7C15);
-        let z = (self.0 ^ (self.0 >> 30)).wrapping_mul(0xBF58_476D_1CE4_E5B9);
-        let z = (z ^ (z >> 27)).wrapping_mul(0x94D0_49BB_1331_11EB);
-        z ^ (z >> 31)
-    }
-    fn below(&mut self, n: u64) -> u64 {
-        (u128::from(self.next()) * u128::from(n) >> 64) as u64
-    }
-    fn of(&mut self, choices: &[u64]) -> u64 {
-        choices[self.below(choices.len() as u64) as usize]
-    }
-    fn bytes(&mut self, n: usize) -> Vec<u8> {
-        (0..n).map(|_| self.next() as u8).collect()
-    }
-}
-
-/// What was compared, and what differed.
-#[derive(Default)]
-struct Count {
-    fills: u64,
-    elements: u64,
-    refused: u64,
-    others: u64,
-    differences: u64,
-}
-impl Count {
-    fn differ(&mut self, what: String) {
-        self.differences += 1;
-        if self.differences <= 5 {
-            println!("  DIFFERENCE: {what}");
-        }
-    }
-    fn same<T: PartialEq + std::fmt::Debug>(&mut self, what: &str, ours: T, expected: T) {
-        if ours != expected {
-            self.differ(format!("{what}: {ours:?} and not {expected:?}"));
-        }
-    }
-    fn report(&self, name: &str) -> u64 {
-        println!(
-            "  {name}: {} fills, {} elements compared, {} calls refused, {} other calls, {} differences",
-            self.fills, self.elements, self.refused, self.others, self.differences
-        );
-        self.differences
-    }
 }
 
 /// What a call is lent, between two ends of noise.

@@ -12,10 +12,10 @@ abbrev μ-loop : tie.MeasureT-loop
 μ-loop s at n x₀ i₀ x i = i
 
 add-x : tie.Need-add-x Inv-loop μ-loop
-add-x c = omega (arith, load-room (c .before .before .before .loop .inv) (c .before .before .loop-test .taken))
+add-x c = omega (arith, load-room (c .before .before .before .loop .inv) (omega arith))
 
 loop-again : tie.Need-loop-again Inv-loop μ-loop
-loop-again c = load-more (c .before .before .before .loop .inv) (c .before .before .loop-test .taken) (c .wide .ensures .0) (c .wide .ensures .1)
+loop-again c = load-more (c .before .before .before .loop .inv) (omega arith) (c .wide .ensures .0) (c .wide .ensures .1)
 
 pub word-n-spec : {M : Type 1} → statement M
-word-n-spec = tie.close (tie.spec Inv-loop μ-loop (λ c. load-none (search needs)) (λ c. search needs) (λ c. omega (arith, load-room (c .before .loop .inv) (c .loop-test .taken))) (λ c. search needs) (λ c. omega (arith, c .before .before .loop .inv .room)) (λ c κs. search needs) add-x (λ c. search needs) loop-again (λ c. load-end (c .before .loop .inv) (c .loop-test .left)))
+word-n-spec = tie.close (tie.spec Inv-loop μ-loop (λ c. load-none (search needs)) (λ c. search needs) (λ c. omega (arith, load-room (c .before .loop .inv) (omega arith))) (λ c. search needs) (λ c. omega (arith, c .before .before .loop .inv .room)) (λ c κs. search needs) add-x (λ c. search needs) loop-again (λ c. load-end (c .before .loop .inv) (c .loop-test .left)))
