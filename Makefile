@@ -3,8 +3,9 @@
 # make lib       proves the library and puts libgirderpeach.a, libgirderpeach.so and girderpeach.pc in target/lib.
 # make install   puts these and the header below PREFIX.
 # make example   builds target/example/paths from examples/paths.c.
+# make bench     times the fills beside the Rust's and other generators, and prints the tables of docs/BENCHMARKS.md.
 
-# Where the Rust source of tpt-simd-rng lies (tests/oracle). Without it those comparisons are skipped, and said to be.
+# Where the Rust source of tpt-simd-rng lies (tests/oracle, bench). Without it those comparisons are skipped, and said to be.
 RUST_SRC ?= ../shared/docs/src
 
 PREFIX = /usr/local
@@ -23,7 +24,7 @@ PROVED := crates.txt $(shell find crates -name '*.rt' -o -name '*.antt')
 # An archive of which the proof failed does not stay.
 .DELETE_ON_ERROR:
 
-.PHONY: test lib install example clean $(LIB)/girderpeach.pc
+.PHONY: test lib install example bench clean $(LIB)/girderpeach.pc
 
 test:
 	@RUST_SRC='$(RUST_SRC)' tests/run
@@ -65,6 +66,10 @@ example: target/example/paths
 target/example/paths: examples/paths.c include/girderpeach.h $(LIB)/libgirderpeach.a
 	@mkdir -p $(@D)
 	$(CC) -O2 -Iinclude -o $@ $< $(LIB)/libgirderpeach.a
+
+# The typed fills are called through the libraries that tests/oracle links too.
+bench: $(ARCHIVE) target/staticlib/liboracle_xoshiro.a target/staticlib/liboracle_philox.a
+	@RUST_SRC='$(RUST_SRC)' bench/run
 
 clean:
 	rm -rf target

@@ -25,6 +25,10 @@ module _ {A : Type 0} where
       let e : i + suc r ≡ suc i + r = omega arith in
       rw e (sets-in vs (set l i a) (suc i) r d (le-of-suc-le-suc h) (rw length-set (omega arith)))
 
+  sets-after : (vs l : List A) (i k : ℕ) (d : A) → i + length vs ≤ k → getD (sets l i vs) k d ≡ getD l k d
+  sets-after [] l i k d h = refl
+  sets-after (a ∷ vs) l i k d h = sets-after vs (set l i a) (suc i) k d (omega arith) ∙ getD-set-other l i k a d (omega arith)
+
   sets-out : (l : List A) (i : ℕ) (vs : List A) → length l ≤ i → sets l i vs ≡ l
   sets-out l i [] h = refl
   sets-out l i (a ∷ vs) h = rw (set-out l i a h) (sets-out l (suc i) vs (omega arith))
@@ -55,6 +59,10 @@ module _ {A : Type 0} where
   pub stored-in : (v l : List A) (at r : ℕ) (d : A) → r < length v → at + r < length l → getD (stored l at v) (at + r) d ≡ getD v r d
   unfolding stored
   stored-in v l at r d h b = sets-in v l at r d h b
+
+  pub stored-after : (v l : List A) (at k : ℕ) (d : A) → at + length v ≤ k → getD (stored l at v) k d ≡ getD l k d
+  unfolding stored
+  stored-after v l at k d h = sets-after v l at k d h
 
   -- past the end nothing is stored
   pub stored-out : (l v : List A) (at : ℕ) → length l ≤ at → l ≡ stored l at v

@@ -1,8 +1,8 @@
 -- A table's length and elements, and what a loop that stores one place by place keeps. Assumes nothing.
-use mathlib.Core.List.{List, _∷_}
+use mathlib.Core.List.{List, _∷_, _++_}
 use mathlib.Core.Path.{_≡_, refl, sym, ap, _∙_}
 use Prim.Native.Nat.{ℕ, zero, suc, _+_, _≤_, _<_, suc-le-suc}
-use native.Mathlib.Nat.{le-of-suc-le-suc, not-suc-le-zero, zero-lt-suc}
+use native.Mathlib.Nat.{le-of-suc-le-suc, not-suc-le-zero, zero-lt-suc, zero-add, suc-add}
 use native.Mathlib.Decide.{decLt}
 use native.Mathlib.Omega.{arith}
 use lib.ListN.{length, getD, set, length-set}
@@ -24,6 +24,14 @@ pub table-same {ℓ} : {A : Type ℓ} (n : ℕ) (f g : ℕ → A) → ((i : ℕ)
 unfolding table
 table-same zero f g h = refl
 table-same (suc n) f g h = λ k. h 0 (zero-lt-suc n) k ∷ table-same n (λ i. f (suc i)) (λ i. g (suc i)) (λ i l. h (suc i) (suc-le-suc l)) k
+
+-- a table in two parts
+pub table-append : {A : Type 0} (m n : ℕ) (f : ℕ → A) → table (m + n) f ≡ table m f ++ table n (λ i. f (m + i))
+unfolding table
+table-append zero n f = ap (λ (k : ℕ). table k f) (zero-add n) ∙ table-same n f (λ i. f (0 + i)) (λ i h. ap f (sym (zero-add i)))
+table-append (suc m) n f =
+    ap (λ (k : ℕ). table k f) (suc-add m n)
+    ∙ ap (λ (t : List _). f 0 ∷ t) (table-append m n (λ i. f (suc i)) ∙ ap (λ (t : List _). table m (λ i. f (suc i)) ++ t) (table-same n _ _ (λ i h. ap f (sym (suc-add m i)))))
 
 -- a list of n elements is the table of them
 pub table-getD : {A : Type 0} (n : ℕ) (d : A) (l : List A) → length l ≡ n → table n (λ i. getD l i d) ≡ l
@@ -57,3 +65,19 @@ module _ {A : Type 0} {n : ℕ} {f : ℕ → A} {d : A} {out : List A} where
     tabled-end h =
         ext-getD d out (table n f) (w .long ∙ sym (length-table n f))
         (λ j l. w .done j (omega (arith, w .long)) ∙ sym (getD-table n f j d (omega (arith, w .long))))
+
+-- the same in place: the first i elements stand over those of `old`, and those after them are still `old`'s
+pub record Mapped {A : Type 0} (n : ℕ) (f : ℕ → A) (d : A) (old out : List A) (i : ℕ) : Type 0 where
+  pub tabled : Tabled n f d out i
+  pub left : (j : ℕ) → i ≤ j → getD out j d ≡ getD old j d
+
+module _ {A : Type 0} {n : ℕ} {f : ℕ → A} {d : A} {old : List A} where
+  pub mapped-none : length old ≡ n → Mapped n f d old old 0
+  mapped-none e = record { tabled = tabled-none e; left = λ j h. refl }
+
+  pub mapped-more : {out : List A} {i : ℕ} {v : A} → Mapped n f d old out i → i < n → v ≡ f i → Mapped n f d old (set out i v) (i + 1)
+  mapped-more {out} {i} {v} w h e =
+      record {
+        tabled = tabled-more (w .tabled) h e;
+        left = λ j l. getD-set-other out i j v d (λ q. omega arith) ∙ w .left j (omega arith);
+      }

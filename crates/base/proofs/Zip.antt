@@ -37,3 +37,14 @@ zip-maps {E = E} g a b (x ∷ xs) (y ∷ ys) = ap (λ (l : List E). g (a x) (b y
 pub map-append : {A B : Type 0} (f : A → B) (xs ys : List A) → map f (xs ++ ys) ≡ map f xs ++ map f ys
 map-append f [] ys = refl
 map-append {B = B} f (x ∷ xs) ys = ap (λ (l : List B). f x ∷ l) (map-append f xs ys)
+
+-- a table joined with another, and one made from a table
+pub zip-tables : {A B C : Type 0} (g : A → B → C) (n : ℕ) (a : ℕ → A) (b : ℕ → B) → zipWith g (table n a) (table n b) ≡ table n (λ i. g (a i) (b i))
+unfolding table
+zip-tables g zero a b = refl
+zip-tables {C = C} g (suc n) a b = ap (λ (l : List C). g (a 0) (b 0) ∷ l) (zip-tables g n (λ i. a (suc i)) (λ i. b (suc i)))
+
+pub map-table : {A B : Type 0} (g : A → B) (n : ℕ) (a : ℕ → A) → map g (table n a) ≡ table n (λ i. g (a i))
+unfolding table
+map-table g zero a = refl
+map-table {B = B} g (suc n) a = ap (λ (l : List B). g (a 0) ∷ l) (map-table g n (λ i. a (suc i)))

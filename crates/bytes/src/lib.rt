@@ -7,7 +7,7 @@ ghost use Rattle.base.specs.Bytes.{leBytes, leNat, flat};
 ghost use Rattle.base.specs.Stored.{stored};
 
 // The bytes of a word.
-fn le8(x: u64) -> [u8; 8]
+pub fn le8(x: u64) -> [u8; 8]
     ensures { λ r. ⌜ r ≡ leBytes 8 x ⌝ }
 {
     let x1 = x / 256;

@@ -38,11 +38,11 @@ round-lt n W w t pos some h =
     rw (add-one, suc-mul, ← mul-assoc) (omega arith)
 
 module _ {A : Type 0} (K : Kind A) (sound : Sound K) (pos : 0 < K .width) where
-  wide : (a : A) → length (bytesOf K a) ≡ K .width
+  pub wide : (a : A) → length (bytesOf K a) ≡ K .width
   wide a = length-leBytes (K .width) (K .bits a)
 
   -- the kind of bytes is sound too
-  bytes-sound : Sound (bytesKind K)
+  pub bytes-sound : Sound (bytesKind K)
   bytes-sound =
       record {
         some = omega (arith, mul-le-mul-right (K .width) (sound .some), pos);

@@ -45,7 +45,7 @@ module _ {G A : Type 0} (words : G → List ℕ) (next : G → G) (K : Kind A) (
     pub done : (k : ℕ) → k < length old → k < at → getD out k (K .blank) ≡ element K (λ m. words (iterate next m g)) k
 
 module _ {A : Type 0} (K : Kind A) where
-  element-at : (W : ℕ → List ℕ) (t r : ℕ) → r < K .places → element K W (t * K .places + r) ≡ getD (K .group (λ m. W (K .draws * t + m))) r (K .blank)
+  pub element-at : (W : ℕ → List ℕ) (t r : ℕ) → r < K .places → element K W (t * K .places + r) ≡ getD (K .group (λ m. W (K .draws * t + m))) r (K .blank)
   element-at W t r h =
       ap (λ (q : ℕ). getD (K .group (λ m. W (K .draws * q + m))) ((t * K .places + r) % K .places) (K .blank)) (digits-div t h)
       ∙ ap (λ (n : ℕ). getD (K .group (λ m. W (K .draws * t + m))) n (K .blank)) (digits-mod t h)

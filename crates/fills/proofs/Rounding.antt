@@ -1,7 +1,7 @@
 -- How many groups n places begin: n / w rounded up. Assumes nothing.
 use mathlib.Core.Path.{_≡_, ap, _∙_}
-use Prim.Native.Nat.{ℕ, zero, suc, _+_, _-_, _/_, _%_, _<_, _≤_}
-use native.Mathlib.Nat.{div-zero, div-eq-of-lt, div-add-mod', div-eq-of-lt-le, mod-lt, suc-mul}
+use Prim.Native.Nat.{ℕ, zero, suc, _+_, _-_, _*_, _/_, _%_, _<_, _≤_}
+use native.Mathlib.Nat.{div-zero, div-eq-of-lt, div-add-mod', div-eq-of-lt-le, lt-div-mul-add, lt-of-mul-lt-mul-right, mod-lt, suc-mul}
 use native.Mathlib.Decide.{ℕ-discrete}
 use native.Mathlib.Numerals.{add-one}
 use native.Mathlib.Omega.{arith}
@@ -32,3 +32,10 @@ round-none n (suc w) e = div-eq-of-lt (omega arith)
 
 pub round-nothing : (n w : ℕ) → w ≡ 0 → roundUp n w ≡ 0
 round-nothing n w e = ap (λ (x : ℕ). (n + (x - 1)) / x) e ∙ div-zero (n + (0 - 1))
+
+-- these groups have a place for each, and one that a place begins is among them
+pub round-covers : (n w : ℕ) → 0 < w → n ≤ roundUp n w * w
+round-covers n w pos = omega (arith, lt-div-mul-add {a = n + (w - 1)} pos)
+
+pub round-begun : (n w k : ℕ) → 0 < w → k * w < n → k < roundUp n w
+round-begun n w k pos h = lt-of-mul-lt-mul-right w (omega (arith, round-covers n w pos))

@@ -39,11 +39,11 @@ pub fn groups_of(len: usize, at: usize, places: usize, most: usize) -> usize
     q + 1
 }
 
-// The words of draw `i`, modulo 64, of a buffer of 64 draws.
-pub fn draw_of(b: &[u64; 512], i: usize) -> [u64; 8]
-    ensures { λ r. ⌜ r ≡ drawOf (now (b .entry)) (i % 64) ⌝ }
+// The words of draw `i`, modulo 16, of a buffer of 16 draws.
+pub fn draw_of(b: &[u64; 128], i: usize) -> [u64; 8]
+    ensures { λ r. ⌜ r ≡ drawOf (now (b .entry)) (i % 16) ⌝ }
 {
-    let first = i % 64 * 8;
+    let first = i % 16 * 8;
     let mut w = [0u64; 8];
     for k in 0..8 {
         w[k] = b[first + k];

@@ -1,131 +1,108 @@
-// Groups of every kind as bytes, by the kind's number: elements little-endian, floats as their bits.
-ghost use mathlib.Core.List.{map, _++_};
+// Groups of every kind as bytes, by the kind's number: elements little-endian, floats as their bits. The kind is chosen once for a buffer, not
+// for each group.
 ghost use mathlib.Core.Path.{_≡_};
-ghost use Prim.Native.Nat.{_+_, _-_, _*_, _<_, _≤_};
-ghost use lib.ListN.{length};
-ghost use lib.Ieee.{binary32, binary64, toBits};
-ghost use Rattle.base.specs.Bytes.{leBytes, flat};
-ghost use Rattle.base.specs.Stored.{stored};
-ghost use Rattle.fills.specs.Buffer.{bytesKind, groupsAhead, drawsAhead, storedGroups};
-ghost use Rattle.fills.specs.FillBytes.{bytesOf, refusalOf};
-ghost use Rattle.fills.specs.Kinds.{normalsOf, normalF64s, kindAt};
+ghost use Prim.Native.Nat.{ℕ, _+_, _-_, _*_, _<_, _≤_};
+ghost use lib.ListN.{length, getD};
+ghost use lib.Ieee.{nan};
+ghost use Rattle.fills.specs.Buffer.{drawOf, bytesKind, groupsAhead, drawsAhead, storedGroups};
+ghost use Rattle.fills.specs.Fill.{element};
+ghost use Rattle.fills.specs.FillBytes.{refusalOf};
+ghost use Rattle.fills.specs.Kinds.{u32s, f32s, normalF32s, normalF64s, kindAt};
 
-// The patterns of eight floats.
-fn bits_f32(x: [f32; 8]) -> [u32; 8]
-    ensures { λ r. ⌜ r ≡ map (toBits binary32) x ⌝ }
+// The first `n` elements of kind 2 of the buffer `b`, in the first places of `x`.
+fn first_u32(x: &mut [u32], n: usize, b: &[u64; 128])
+    requires { ⌜ (n ≤ length (now x)) × (n ≤ 256) ⌝ }
+    ensures { λ _. ⌜ ((k : ℕ) → k < n → getD (now (x .exit)) k 0 ≡ element u32s (drawOf (now (b .entry))) k) ⌝ }
 {
-    let mut out = [0u32; 8];
-    for i in 0..8 {
-        out[i] = floats::to_bits_f32(x[i]);
-    }
-    out
+    groups_u32::map_u32(&mut x[..n], 0, b);
 }
 
-fn bits_f64(x: [f64; 8]) -> [u64; 8]
-    ensures { λ r. ⌜ r ≡ map (toBits binary64) x ⌝ }
+// The same of kind 5.
+fn first_normal_f32(x: &mut [f32], n: usize, b: &[u64; 128])
+    requires { ⌜ (n ≤ length (now x)) × (n ≤ 256) ⌝ }
+    ensures { λ _. ⌜ ((k : ℕ) → k < n → getD (now (x .exit)) k nan ≡ element normalF32s (drawOf (now (b .entry))) k) ⌝ }
 {
-    let mut out = [0u64; 8];
-    for i in 0..8 {
-        out[i] = floats::to_bits_f64(x[i]);
-    }
-    out
+    groups_normal_f32::map_normal_f32(&mut x[..n], 0, b);
 }
 
-// Sixteen halves as eight words of the same bytes.
-fn paired(a: [u32; 8], b: [u32; 8]) -> [u64; 8]
-    ensures { λ r. ⌜ flat (leBytes 8) r ≡ flat (leBytes 4) (a ++ b) ⌝ }
+// The same of kind 6.
+fn first_normal_f64(x: &mut [f64], n: usize, b: &[u64; 128])
+    requires { ⌜ (n ≤ length (now x)) × (n ≤ 128) ⌝ }
+    ensures { λ _. ⌜ ((k : ℕ) → k < n → getD (now (x .exit)) k nan ≡ element normalF64s (drawOf (now (b .entry))) k) ⌝ }
 {
-    [
-        bytes::pair(a[0], a[1]),
-        bytes::pair(a[2], a[3]),
-        bytes::pair(a[4], a[5]),
-        bytes::pair(a[6], a[7]),
-        bytes::pair(b[0], b[1]),
-        bytes::pair(b[2], b[3]),
-        bytes::pair(b[4], b[5]),
-        bytes::pair(b[6], b[7]),
-    ]
+    groups_normal_f64::map_normal_f64(&mut x[..n], 0, b);
 }
 
-// A group of a kind other than 6, as eight words of the same bytes, from the words of its draw. (Kind 1 stands for the numbers that are no kind's.)
-fn patterns(kind: u64, w: [u64; 8]) -> [u64; 8]
-    requires { ⌜ (kind ≡ 6 → ⊥) ⌝ }
-    ensures { λ r. ⌜ flat (leBytes 8) r ≡ bytesKind (kindAt kind .kind) .group (λ _. w) ⌝ }
+// The bytes of the elements of kind 2 of the buffer `b` in the places from `at` on, as far as both go. Only those that a place begins are made.
+fn bytes_u32(out: &mut [u8], at: usize, b: &[u64; 128])
+    ensures { λ _. ⌜ now (out .exit) ≡ storedGroups (bytesKind u32s) (now (b .entry)) (now (out .entry)) at (groupsAhead (bytesKind u32s) (length (now (out .entry)) - at)) ⌝ }
 {
-    if kind == 2 {
-        return paired(groups::lows(w), groups::highs(w));
-    }
-    if kind == 3 {
-        let lo = groups_f32::units_f32(groups::lows(w));
-        let hi = groups_f32::units_f32(groups::highs(w));
-        return paired(bits_f32(lo), bits_f32(hi));
-    }
-    if kind == 4 {
-        return bits_f64(groups_f64::units_f64(w));
-    }
-    if kind == 5 {
-        let z = groups_normal_f32::normals_f32(w);
-        let c = z.cos;
-        let s = z.sin;
-        return paired(bits_f32(c), bits_f32(s));
-    }
-    w
+    let n = groups::groups_of(out.len(), at, 4, 256);
+    let mut x = [0u32; 256];
+    first_u32(&mut x, n, b);
+    copies_4::copy_u32(out, at, &x);
 }
 
-// The bytes of the groups of the buffer `b`, of a kind other than 6, in the places from `at` on, as far as both go.
-fn map_single(kind: u64, out: &mut [u8], at: usize, b: &[u64; 512])
-    requires { ⌜ (kind ≡ 6 → ⊥) ⌝ }
-    ensures { λ _. ⌜ now (out .exit) ≡ storedGroups (bytesKind (kindAt kind .kind)) (now (b .entry)) (now (out .entry)) at (groupsAhead (bytesKind (kindAt kind .kind)) (length (now (out .entry)) - at)) ⌝ }
+// The same of kind 3: the units of kind 2.
+fn bytes_f32(out: &mut [u8], at: usize, b: &[u64; 128])
+    ensures { λ _. ⌜ now (out .exit) ≡ storedGroups (bytesKind f32s) (now (b .entry)) (now (out .entry)) at (groupsAhead (bytesKind f32s) (length (now (out .entry)) - at)) ⌝ }
 {
-    let q = groups::groups_of(out.len(), at, 64, 64);
-    for j in 0..q {
-        bytes::put_words(out, at + j * 64, patterns(kind, groups::draw_of(b, j)));
-    }
+    let n = groups::groups_of(out.len(), at, 4, 256);
+    let mut x = [0u32; 256];
+    first_u32(&mut x, n, b);
+    copies_4::copy_units_f32(out, at, &x);
 }
 
-// The bytes of one group of kind 6, from the words of its two draws.
-fn write_normal_f64(out: &mut [u8], at: usize, a: [u64; 8], b: [u64; 8])
-    requires { ⌜ at < length (now out) ⌝ }
-    ensures { λ _. ⌜ now (out .exit) ≡ stored (now (out .entry)) at (flat (bytesOf normalF64s) (normalsOf binary64 a b)) ⌝ }
+// The same of kind 5.
+fn bytes_normal_f32(out: &mut [u8], at: usize, b: &[u64; 128])
+    ensures { λ _. ⌜ now (out .exit) ≡ storedGroups (bytesKind normalF32s) (now (b .entry)) (now (out .entry)) at (groupsAhead (bytesKind normalF32s) (length (now (out .entry)) - at)) ⌝ }
 {
-    let z = groups_normal_f64::normals_f64(a, b);
-    let c = z.cos;
-    let s = z.sin;
-    bytes::put_words(out, at, bits_f64(c));
-    bytes::put_words(out, at + 64, bits_f64(s));
+    let n = groups::groups_of(out.len(), at, 4, 256);
+    let mut x = [0.0f32; 256];
+    first_normal_f32(&mut x, n, b);
+    copies_4::copy_f32(out, at, &x);
 }
 
-// The same of kind 6, whose groups take two draws.
-fn map_double(out: &mut [u8], at: usize, b: &[u64; 512])
+// The same of kind 6.
+fn bytes_normal_f64(out: &mut [u8], at: usize, b: &[u64; 128])
     ensures { λ _. ⌜ now (out .exit) ≡ storedGroups (bytesKind normalF64s) (now (b .entry)) (now (out .entry)) at (groupsAhead (bytesKind normalF64s) (length (now (out .entry)) - at)) ⌝ }
 {
-    let q = groups::groups_of(out.len(), at, 128, 32);
-    for j in 0..q {
-        let first = groups::draw_of(b, 2 * j);
-        let second = groups::draw_of(b, 2 * j + 1);
-        write_normal_f64(out, at + j * 128, first, second);
-    }
+    let n = groups::groups_of(out.len(), at, 8, 128);
+    let mut x = [0.0f64; 128];
+    first_normal_f64(&mut x, n, b);
+    copies_8::copy_f64(out, at, &x);
 }
 
-// The bytes of the groups of the buffer `b` in the places from `at` on, as far as both go.
-pub fn map_bytes(kind: u64, out: &mut [u8], at: usize, b: &[u64; 512])
+// The bytes of the groups of the buffer `b` in the places from `at` on, as far as both go. (Kind 1 stands for the numbers that are no kind's.)
+pub fn map_bytes(kind: u64, out: &mut [u8], at: usize, b: &[u64; 128])
     ensures { λ _. ⌜ now (out .exit) ≡ storedGroups (bytesKind (kindAt kind .kind)) (now (b .entry)) (now (out .entry)) at (groupsAhead (bytesKind (kindAt kind .kind)) (length (now (out .entry)) - at)) ⌝ }
 {
-    if kind == 6 {
-        map_double(out, at, b);
-    } else {
-        map_single(kind, out, at, b);
+    if kind == 2 {
+        return bytes_u32(out, at, b);
     }
+    if kind == 3 {
+        return bytes_f32(out, at, b);
+    }
+    if kind == 4 {
+        return copies_8::copy_units_f64(out, at, b);
+    }
+    if kind == 5 {
+        return bytes_normal_f32(out, at, b);
+    }
+    if kind == 6 {
+        return bytes_normal_f64(out, at, b);
+    }
+    copies_8::copy_u64(out, at, b);
 }
 
-// The draws of the groups that the bytes from `at` on of a slice of length `len` begin, at most 64: each draw makes 64 bytes.
+// The draws of the groups that the bytes from `at` on of a slice of length `len` begin, at most 16: each draw makes 64 bytes.
 pub fn draws_ahead(kind: u64, len: usize, at: usize) -> usize
-    ensures { λ r. ⌜ (r ≡ drawsAhead (bytesKind (kindAt kind .kind)) (len - at)) × (r ≤ 64) × (r * 64 < len - at + 128) × (at < len → 0 < r) ⌝ }
+    ensures { λ r. ⌜ (r ≡ drawsAhead (bytesKind (kindAt kind .kind)) (len - at)) × (r ≤ 16) × (r * 64 < len - at + 128) × (at < len → 0 < r) ⌝ }
 {
     if kind == 6 {
-        return 2 * groups::groups_of(len, at, 128, 32);
+        return 2 * groups::groups_of(len, at, 128, 8);
     }
-    groups::groups_of(len, at, 64, 64)
+    groups::groups_of(len, at, 64, 16)
 }
 
 // The number of the refusal of a byte fill of `len` bytes, 0 if there is none.

@@ -53,10 +53,10 @@ fn write_f32(out: &mut [f32], at: usize, w: [u64; 8])
 }
 
 // The groups of the buffer `b` in the places from `at` on, as far as both go.
-pub fn map_f32(out: &mut [f32], at: usize, b: &[u64; 512])
+pub fn map_f32(out: &mut [f32], at: usize, b: &[u64; 128])
     ensures { λ _. ⌜ now (out .exit) ≡ storedGroups f32s (now (b .entry)) (now (out .entry)) at (groupsAhead f32s (length (now (out .entry)) - at)) ⌝ }
 {
-    let q = groups::groups_of(out.len(), at, 16, 64);
+    let q = groups::groups_of(out.len(), at, 16, 16);
     for j in 0..q {
         write_f32(out, at + j * 16, groups::draw_of(b, j));
     }

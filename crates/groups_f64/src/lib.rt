@@ -44,10 +44,10 @@ pub fn units_f64(w: [u64; 8]) -> [f64; 8]
 }
 
 // The groups of the buffer `b` in the places from `at` on, as far as both go.
-pub fn map_f64(out: &mut [f64], at: usize, b: &[u64; 512])
+pub fn map_f64(out: &mut [f64], at: usize, b: &[u64; 128])
     ensures { λ _. ⌜ now (out .exit) ≡ storedGroups f64s (now (b .entry)) (now (out .entry)) at (groupsAhead f64s (length (now (out .entry)) - at)) ⌝ }
 {
-    let q = groups::groups_of(out.len(), at, 8, 64);
+    let q = groups::groups_of(out.len(), at, 8, 16);
     for j in 0..q {
         put_f64(out, at + j * 8, units_f64(groups::draw_of(b, j)));
     }

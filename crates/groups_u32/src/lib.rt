@@ -1,6 +1,6 @@
 // Groups of u32 elements, made of the words of draws and stored in a slice: kind 2.
 ghost use mathlib.Core.Path.{_≡_};
-ghost use Prim.Native.Nat.{_+_, _-_, _<_, min};
+ghost use Prim.Native.Nat.{_+_, _-_, _<_, _≤_, min};
 ghost use lib.ListN.{length};
 ghost use Rattle.base.specs.Stored.{stored};
 ghost use Rattle.fills.specs.Buffer.{groupsAhead, storedGroups};
@@ -38,12 +38,26 @@ fn write_u32(out: &mut [u32], at: usize, w: [u64; 8])
     put_u32(out, at + 8, groups::highs(w));
 }
 
-// The groups of the buffer `b` in the places from `at` on, as far as both go.
-pub fn map_u32(out: &mut [u32], at: usize, b: &[u64; 512])
+// The same of a group that has room: no test for each half.
+fn whole_u32(out: &mut [u32], at: usize, w: [u64; 8])
+    requires { ⌜ at + 16 ≤ length (now out) ⌝ }
+    ensures { λ _. ⌜ now (out .exit) ≡ stored (now (out .entry)) at (u32s .group (λ _. w)) ⌝ }
+{
+    put_u32_n(out, at, groups::lows(w), 8);
+    put_u32_n(out, at + 8, groups::highs(w), 8);
+}
+
+// The groups of the buffer `b` in the places from `at` on, as far as both go: the whole ones, then a last part of one.
+pub fn map_u32(out: &mut [u32], at: usize, b: &[u64; 128])
     ensures { λ _. ⌜ now (out .exit) ≡ storedGroups u32s (now (b .entry)) (now (out .entry)) at (groupsAhead u32s (length (now (out .entry)) - at)) ⌝ }
 {
-    let q = groups::groups_of(out.len(), at, 16, 64);
+    let n = groups::room(out.len(), at, 256);
+    let q = n / 16;
     for j in 0..q {
-        write_u32(out, at + j * 16, groups::draw_of(b, j));
+        whole_u32(out, at + j * 16, groups::draw_of(b, j));
     }
+    if n % 16 == 0 {
+        return;
+    }
+    write_u32(out, at + q * 16, groups::draw_of(b, q));
 }

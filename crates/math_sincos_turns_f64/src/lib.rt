@@ -4,8 +4,8 @@ ghost use mathlib.Core.Path.{_≡_};
 ghost use Prim.Native.Nat.{_%_};
 ghost use lib.Dec.{eqb};
 ghost use lib.Ieee.{binary64};
-ghost use Rattle.math.specs.Turns.{sinPoly, cosPoly, signOf};
-ghost use Rattle.math_sincos_turns_f64.specs.Lanes.{laneOf, lanesOf};
+ghost use Rattle.math.specs.Turns.{angle as angleOf, signOf};
+ghost use Rattle.math_sincos_turns_f64.specs.Lanes.{sinStart, sinEnd, cosStart, cosEnd, turnedOf, laneOf, lanesOf};
 
 const MAGIC: f64 = 6_755_399_441_055_744.0; // 1.5 * 2^52
 
@@ -23,32 +23,46 @@ pub struct CosSin {
     pub sin: [f64; 8],
 }
 
-fn sin_poly(th: f64) -> f64
-    ensures { λ r. ⌜ r ≡ sinPoly binary64 th ⌝ }
+// The sine of an angle, a polynomial, begun and ended: two functions for loops over many lanes, of which each does a part.
+pub fn sin_start(th: f64) -> f64
+    ensures { λ r. ⌜ r ≡ sinStart th ⌝ }
 {
     let z = th * th;
     let mut ps = 1.0 / 355_687_428_096_000.0;
     ps = ps * z - 1.0 / 1_307_674_368_000.0;
     ps = ps * z + 1.0 / 6_227_020_800.0;
     ps = ps * z - 1.0 / 39_916_800.0;
-    ps = ps * z + 1.0 / 362_880.0;
-    ps = ps * z - 1.0 / 5_040.0;
+    ps * z + 1.0 / 362_880.0
+}
+
+pub fn sin_end(th: f64, y: f64) -> f64
+    ensures { λ r. ⌜ r ≡ sinEnd th y ⌝ }
+{
+    let z = th * th;
+    let mut ps = y * z - 1.0 / 5_040.0;
     ps = ps * z + 1.0 / 120.0;
     ps = ps * z - 1.0 / 6.0;
     ps = ps * z + 1.0;
     th * ps
 }
 
-fn cos_poly(th: f64) -> f64
-    ensures { λ r. ⌜ r ≡ cosPoly binary64 th ⌝ }
+// The cosine likewise.
+pub fn cos_start(th: f64) -> f64
+    ensures { λ r. ⌜ r ≡ cosStart th ⌝ }
 {
     let z = th * th;
     let mut pc = 1.0 / 20_922_789_888_000.0;
     pc = pc * z - 1.0 / 87_178_291_200.0;
     pc = pc * z + 1.0 / 479_001_600.0;
     pc = pc * z - 1.0 / 3_628_800.0;
-    pc = pc * z + 1.0 / 40_320.0;
-    pc = pc * z - 1.0 / 720.0;
+    pc * z + 1.0 / 40_320.0
+}
+
+pub fn cos_end(th: f64, y: f64) -> f64
+    ensures { λ r. ⌜ r ≡ cosEnd th y ⌝ }
+{
+    let z = th * th;
+    let mut pc = y * z - 1.0 / 720.0;
     pc = pc * z + 1.0 / 24.0;
     pc = pc * z - 0.5;
     pc * z + 1.0
@@ -61,14 +75,19 @@ fn sign(n: u64) -> f64
     floats::from_bits_f64((n << 63) | 0x3FF0_0000_0000_0000)
 }
 
-// One lane.
-pub fn lane(t: f64) -> CosSinLane
-    ensures { λ r. ⌜ r ≡ laneOf t ⌝ }
+// The angle that is left of a turn without the quarter that it is nearest to.
+pub fn angle(t: f64) -> f64
+    ensures { λ r. ⌜ r ≡ angleOf binary64 t ⌝ }
 {
     let w = 4.0 * t + MAGIC;
-    let th = (t - (w - MAGIC) * 0.25) * TAU;
-    let s = sin_poly(th);
-    let c = cos_poly(th);
+    (t - (w - MAGIC) * 0.25) * TAU
+}
+
+// A turn's cosine and sine from the sine and the cosine of the angle that is left.
+pub fn turned(t: f64, s: f64, c: f64) -> CosSinLane
+    ensures { λ r. ⌜ r ≡ turnedOf t s c ⌝ }
+{
+    let w = 4.0 * t + MAGIC;
     let q = floats::to_bits_f64(w) % 4;
     let swap = q % 2 == 1;
     let so = floats::select_f64(swap, c, s);
@@ -76,6 +95,14 @@ pub fn lane(t: f64) -> CosSinLane
     let sin = so * sign(q / 2);
     let cos = co * sign((q + 1) / 2);
     CosSinLane { cos, sin }
+}
+
+// One lane.
+pub fn lane(t: f64) -> CosSinLane
+    ensures { λ r. ⌜ r ≡ laneOf t ⌝ }
+{
+    let th = angle(t);
+    turned(t, sin_end(th, sin_start(th)), cos_end(th, cos_start(th)))
 }
 
 // Eight lanes.

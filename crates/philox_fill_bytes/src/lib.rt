@@ -1,5 +1,5 @@
 // The byte fills of Philox4x32-10: what a host asks for by a kind's number.
-use philox_fills::Fill;
+use philox_words::Fill;
 use philox_x8::Philox4x32X8;
 ghost use Rattle.fills.specs.Buffer.{bytesKind};
 ghost use Rattle.fills.specs.Fill.{Filled};
@@ -21,10 +21,10 @@ fn fill_kind(g: Philox4x32X8, kind: u64, out: &mut [u8]) -> Fill
     let mut rng = g;
     let mut draws: u64 = 0;
     let mut at = 0;
-    let mut buf = [0u64; 512];
+    let mut buf = [0u64; 128];
     while at < out.len() {
         let m = groups_bytes::draws_ahead(kind, out.len(), at);
-        let f = philox_fills::fill_buffer(rng, &mut buf, m);
+        let f = philox_words::fill_buffer(rng, &mut buf, m);
         groups_bytes::map_bytes(kind, out, at, &buf);
         rng = f.rng;
         draws += f.draws;

@@ -1,53 +1,12 @@
 // The fills of Philox4x32-10 (Rng8 for Philox4x32X8 in the Rust's lib.rs). A fill takes the generator and a lent slice of any length, writes
 // each place, and hands back its draws and the generator after them. What the last group has over is dropped.
+pub use philox_words::Fill;
+pub use philox_words::fill_buffer;
+pub use philox_words::fill_u64;
 use philox_x8::Philox4x32X8;
-ghost use Prim.Native.Nat.{_*_, _≤_, min};
-ghost use lib.ListN.{length};
-ghost use Rattle.fills.specs.Buffer.{Drawn};
 ghost use Rattle.fills.specs.Fill.{Filled};
-ghost use Rattle.fills.specs.Kinds.{u64s, u32s, f32s, f64s, normalF32s, normalF64s};
+ghost use Rattle.fills.specs.Kinds.{u32s, f32s, f64s, normalF32s, normalF64s};
 ghost use Rattle.philox_x8.specs.Machine.{wordsOf, nextOf};
-
-// The draws that a fill made, and the generator after them.
-pub struct Fill {
-    pub draws: u64,
-    pub rng: Philox4x32X8,
-}
-
-// Kind 1: the words.
-pub fn fill_u64(g: Philox4x32X8, out: &mut [u64]) -> Fill
-    ensures { λ r. ⌜ Filled wordsOf nextOf u64s g (now (out .entry)) (now (out .exit)) (r .draws) (r .rng) ⌝ }
-{
-    let mut rng = g;
-    let mut draws: u64 = 0;
-    let mut at = 0;
-    while at < out.len() {
-        let d = rng.next_u64x8();
-        let w = d.words;
-        groups_u64::put_u64(out, at, w);
-        rng = d.rng;
-        draws += 1;
-        at += 8;
-    }
-    Fill { draws, rng }
-}
-
-// The words of `m` draws, in the first places of `b`. The places after them stay.
-fn fill_first(g: Philox4x32X8, b: &mut [u64], m: usize) -> Fill
-    requires { ⌜ m * 8 ≤ length (now b) ⌝ }
-    ensures { λ r. ⌜ Drawn wordsOf nextOf g m (now (b .entry)) (now (b .exit)) (r .draws) (r .rng) ⌝ }
-{
-    let n = m * 8;
-    fill_u64(g, &mut b[..n])
-}
-
-// The words of `m` draws, at most 64, in a buffer. The other kinds make their groups of it: drawing ahead is faster than turning each draw
-// into elements at once.
-pub fn fill_buffer(g: Philox4x32X8, b: &mut [u64; 512], m: usize) -> Fill
-    ensures { λ r. ⌜ Drawn wordsOf nextOf g (min 64 m) (now (b .entry)) (now (b .exit)) (r .draws) (r .rng) ⌝ }
-{
-    fill_first(g, b, groups::room(64, 0, m))
-}
 
 // Kind 2: their low halves, then their high halves.
 pub fn fill_u32(g: Philox4x32X8, out: &mut [u32]) -> Fill
@@ -56,9 +15,9 @@ pub fn fill_u32(g: Philox4x32X8, out: &mut [u32]) -> Fill
     let mut rng = g;
     let mut draws: u64 = 0;
     let mut at = 0;
-    let mut buf = [0u64; 512];
+    let mut buf = [0u64; 128];
     while at < out.len() {
-        let q = groups::groups_of(out.len(), at, 16, 64);
+        let q = groups::groups_of(out.len(), at, 16, 16);
         let f = fill_buffer(rng, &mut buf, q);
         groups_u32::map_u32(out, at, &buf);
         rng = f.rng;
@@ -75,9 +34,9 @@ pub fn fill_f32(g: Philox4x32X8, out: &mut [f32]) -> Fill
     let mut rng = g;
     let mut draws: u64 = 0;
     let mut at = 0;
-    let mut buf = [0u64; 512];
+    let mut buf = [0u64; 128];
     while at < out.len() {
-        let q = groups::groups_of(out.len(), at, 16, 64);
+        let q = groups::groups_of(out.len(), at, 16, 16);
         let f = fill_buffer(rng, &mut buf, q);
         groups_f32::map_f32(out, at, &buf);
         rng = f.rng;
@@ -94,9 +53,9 @@ pub fn fill_f64(g: Philox4x32X8, out: &mut [f64]) -> Fill
     let mut rng = g;
     let mut draws: u64 = 0;
     let mut at = 0;
-    let mut buf = [0u64; 512];
+    let mut buf = [0u64; 128];
     while at < out.len() {
-        let q = groups::groups_of(out.len(), at, 8, 64);
+        let q = groups::groups_of(out.len(), at, 8, 16);
         let f = fill_buffer(rng, &mut buf, q);
         groups_f64::map_f64(out, at, &buf);
         rng = f.rng;
@@ -113,9 +72,9 @@ pub fn fill_normal_f32(g: Philox4x32X8, out: &mut [f32]) -> Fill
     let mut rng = g;
     let mut draws: u64 = 0;
     let mut at = 0;
-    let mut buf = [0u64; 512];
+    let mut buf = [0u64; 128];
     while at < out.len() {
-        let q = groups::groups_of(out.len(), at, 16, 64);
+        let q = groups::groups_of(out.len(), at, 16, 16);
         let f = fill_buffer(rng, &mut buf, q);
         groups_normal_f32::map_normal_f32(out, at, &buf);
         rng = f.rng;
@@ -132,9 +91,9 @@ pub fn fill_normal_f64(g: Philox4x32X8, out: &mut [f64]) -> Fill
     let mut rng = g;
     let mut draws: u64 = 0;
     let mut at = 0;
-    let mut buf = [0u64; 512];
+    let mut buf = [0u64; 128];
     while at < out.len() {
-        let q = groups::groups_of(out.len(), at, 16, 32);
+        let q = groups::groups_of(out.len(), at, 16, 8);
         let f = fill_buffer(rng, &mut buf, 2 * q);
         groups_normal_f64::map_normal_f64(out, at, &buf);
         rng = f.rng;

@@ -10,7 +10,7 @@ use Rattle.philox_x8.specs.declared.Blocks.{Blocks}
 use Rattle.philox_x8.specs.declared.Draw.{Draw}
 use Rattle.philox_x8.specs.declared.Philox4x32X8.{Philox4x32X8}
 use Rattle.philox_fill_bytes.specs.declared.ByteFill.{ByteFill}
-use Rattle.philox_fills.specs.declared.Fill.{Fill}
+use Rattle.philox_words.specs.declared.Fill.{Fill}
 
 -- A call, with what it was handed besides the generator and what it handed back: a single draw (next_u64x8), a group call (blocks), a seek
 -- (to a u64), a typed fill, a byte fill with its kind's number. `before` and `after` are the lent slice at the call and at the return.

@@ -10,7 +10,7 @@ use Rattle.xoshiro_x8.proofs.Xoshiro256ppX8.from_seed.Reads as from-seed-reads
 use Rattle.xoshiro_x8.proofs.Xoshiro256ppX8.from_seed_block.Reads as from-seed-block-reads
 use Rattle.xoshiro_x8.proofs.Xoshiro256ppX8.next_u64x8.Reads as next-u64x8-reads
 use Rattle.xoshiro_x8.proofs.Xoshiro256ppX8.jump_blocks.Reads as jump-blocks-reads
-use Rattle.xoshiro_fills.proofs.fill_u64.Reads as fill-u64-reads
+use Rattle.xoshiro_words.proofs.fill_u64.Reads as fill-u64-reads
 use Rattle.xoshiro_fills.proofs.fill_u32.Reads as fill-u32-reads
 use Rattle.xoshiro_fills.proofs.fill_f32.Reads as fill-f32-reads
 use Rattle.xoshiro_fills.proofs.fill_f64.Reads as fill-f64-reads

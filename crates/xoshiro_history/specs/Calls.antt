@@ -10,7 +10,7 @@ use Rattle.xoshiro_x8.specs.declared.Draw.{Draw}
 use Rattle.xoshiro_x8.specs.declared.Placed.{Placed}
 use Rattle.xoshiro_x8.specs.declared.Xoshiro256ppX8.{Xoshiro256ppX8}
 use Rattle.xoshiro_fill_bytes.specs.declared.ByteFill.{ByteFill}
-use Rattle.xoshiro_fills.specs.declared.Fill.{Fill}
+use Rattle.xoshiro_words.specs.declared.Fill.{Fill}
 
 -- A call, with what it was handed besides the generator and what it handed back: a single draw (next_u64x8), a typed fill, a byte fill with
 -- its kind's number, a block move (jump_blocks). `before` and `after` are the lent slice at the call and at the return.

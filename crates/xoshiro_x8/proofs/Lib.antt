@@ -1,2 +1,3 @@
 pub mod Lanes
 pub mod Theorems
+pub mod Draws

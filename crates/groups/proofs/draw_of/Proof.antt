@@ -9,7 +9,7 @@ use Rattle.groups.proofs.draw_of.Statement.{statement}
 use Rattle.groups.proofs.draw_of.Tie as tie
 
 abbrev Inv-loop : tie.InvT-loop
-Inv-loop b i first w₀ k₀ w k = Tabled 8 (λ r. getD b (i % 64 * 8 + r) 0) 0 w k
+Inv-loop b i first w₀ k₀ w k = Tabled 8 (λ r. getD b (i % 16 * 8 + r) 0) 0 w k
 
 abbrev μ-loop : tie.MeasureT-loop
 μ-loop b i first w₀ k₀ w k = 8 - k

@@ -11,7 +11,7 @@ use Rattle.groups_bytes.proofs.draws_ahead.Tie as tie
 
 -- what follows from the equation
 with-bounds : (k len at : ℕ) {m : ℕ} → m ≡ drawsAhead (bytesKind (kindAt k .kind)) (len - at)
-    → (m ≡ drawsAhead (bytesKind (kindAt k .kind)) (len - at)) × (m ≤ 64) × (m * 64 < len - at + 128) × (at < len → 0 < m)
+    → (m ≡ drawsAhead (bytesKind (kindAt k .kind)) (len - at)) × (m ≤ 16) × (m * 64 < len - at + 128) × (at < len → 0 < m)
 with-bounds k len at {m} e = let a = ahead k (len - at) m e in (e, a .few, a .near, λ h. a .some (omega arith))
 
 returns : tie.Need-returns

@@ -1,34 +1,23 @@
 -- `math_sincos_turns_f64::lane` meets its contract.
-use Prim.Native.Nat.{ℕ, _+_, _/_, _%_}
 use borrow.Author.Needs.{needs}
-use lib.Dec.{eqb}
-use lib.Ieee.{binary64, ofBits, round}
-use mathlib.Core.Path.{ap, _∙_}
-use Rattle.math.proofs.Signs.{sin-fits, cos-fits, turned}
-use Rattle.math.specs.Turns.{shifted, quarter, angle, sinPoly, cosPoly, turnedSin, turnedCos, sinTurns, cosTurns}
-use Rattle.math_sincos_turns_f64.specs.Lanes.{laneOf}
+use lib.Ieee.{Float, binary64}
+use mathlib.Core.Path.{_≡_, ap, _∙_}
+use Rattle.math.specs.Turns.{angle}
+use Rattle.math_sincos_turns_f64.specs.Lanes.{sinStart, sinEnd, cosStart, cosEnd, turnedOf, laneOf}
+use Rattle.math_sincos_turns_f64.proofs.Whole.{whole}
 use Rattle.math_sincos_turns_f64.proofs.lane.Statement.{statement}
 use Rattle.math_sincos_turns_f64.proofs.lane.Tie as tie
 
+parts : (t th : Float) {y s z c : Float} → th ≡ angle binary64 t → y ≡ sinStart th → s ≡ sinEnd th y → z ≡ cosStart th → c ≡ cosEnd th z → turnedOf t s c ≡ laneOf t
+parts t th p a b d e =
+    (λ i. turnedOf t ((b ∙ ap (sinEnd th) a) i) ((e ∙ ap (cosEnd th) d) i)) ∙ ap (λ (h : Float). turnedOf t (sinEnd h (sinStart h)) (cosEnd h (cosStart h))) p ∙ whole t
+
 returns : tie.Need-returns
-unfolding laneOf sinTurns cosTurns quarter shifted angle ofBits round
 returns c =
-    let signs = c .before in
-    let co = signs .before in
-    let so = co .before in
-    let pattern = so .before in
-    let cosine = pattern .before in
-    let sine = cosine .before in
-    let q = pattern .to-bits-f64 .result % 4 in
-    let t = sine .before .args .t in
-    let p = sinPoly binary64 (angle binary64 t) in
-    let r = cosPoly binary64 (angle binary64 t) in
-    let h = sin-fits binary64 (angle binary64 t) in
-    let k = cos-fits binary64 (angle binary64 t) in
-    λ i. record {
-      cos = (turned binary64 (eqb ((q + 1) / 2 % 2) 1) (eqb (q % 2) 1) p r h k (sine .sin-poly .ensures) (cosine .cos-poly .ensures) (co .select-f642 .ensures) (c .sign2 .ensures) ∙ ap (λ (b : ℕ). turnedCos (b % 4) p r) (pattern .to-bits-f64 .ensures)) i;
-      sin = (turned binary64 (eqb (q / 2 % 2) 1) (eqb (q % 2) 1) r p k h (cosine .cos-poly .ensures) (sine .sin-poly .ensures) (so .select-f64 .ensures) (signs .sign .ensures) ∙ ap (λ (b : ℕ). turnedSin (b % 4) p r) (pattern .to-bits-f64 .ensures)) i;
-    }
+    let cosine = c .before in
+    let sine = cosine .before .before in
+    c .turned .ensures
+    ∙ parts _ _ (sine .before .before .angle .ensures) (sine .before .sin-start .ensures) (sine .sin-end .ensures) (cosine .before .cos-start .ensures) (cosine .cos-end .ensures)
 
 pub lane-spec : {M : Type 1} → statement M
-lane-spec = tie.close (tie.spec (λ c κs. search needs) (λ c κs. search needs) (λ c κs. search needs) (λ c κs. search needs) (λ c κs. search needs) (λ c κs. search needs) (λ c. search needs) (λ c κs. search needs) returns)
+lane-spec = tie.close (tie.spec (λ c κs. search needs) (λ c κs. search needs) (λ c κs. search needs) (λ c κs. search needs) (λ c κs. search needs) (λ c κs. search needs) returns)

@@ -30,7 +30,7 @@ loop-again c =
     let K = bytesKind (kindAt (l .before .before .args .kind) .kind) in
     let n : ℕ = length (l .loop .out) - l .loop .at in
     let a = ahead (l .before .before .args .kind) n (d .draws-ahead .result) (d .draws-ahead .ensures .0) in
-    let few : min 64 (d .draws-ahead .result) ≡ d .draws-ahead .result = omega (arith, a .few) in
+    let few : min 16 (d .draws-ahead .result) ≡ d .draws-ahead .result = omega (arith, a .few) in
     same-place (more-buffered (groupsAhead K n) (l .loop .inv) (f .fill-buffer .ensures) (few ∙ d .draws-ahead .ensures .0) (omega (arith, a .room, l .loop .inv .same)) (m .map-bytes .ensures))
     (ap (λ (x : ℕ). l .loop .at + x) (a .bytes)) refl
 

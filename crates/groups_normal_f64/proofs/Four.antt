@@ -1,0 +1,73 @@
+-- Four groups at a time: the loops that lay 32 lanes out, and the groups that their halves hold. Assumes nothing.
+use mathlib.Core.List.{List, map}
+use mathlib.Core.Path.{_≡_, refl, sym, ap, _∙_}
+use Prim.Native.Nat.{ℕ, _+_, _*_, _/_, _%_, _≤_, _<_}
+use native.Mathlib.Omega.{arith}
+use lib.ListN.{length, getD, set, drop}
+use lib.Seq.{getD-drop}
+use lib.Ieee.{Float, binary64, nan}
+use Rattle.base.specs.Stored.{stored}
+use Rattle.base.specs.Table.{table}
+use Rattle.base.specs.Zip.{zipWith}
+use Rattle.base.proofs.Stored.{stored-eights}
+use Rattle.base.proofs.Table.{Tabled, tabled-none, tabled-more, tabled-end, length-table, getD-table, table-same}
+use Rattle.base.proofs.Zip.{zip-tables, map-table}
+use Rattle.fills.specs.Buffer.{drawOf}
+use Rattle.fills.specs.Kinds.{normalF64s}
+use Rattle.fills.proofs.Buffered.{Grouping, group-more}
+use Rattle.math.specs.BoxMuller.{cosHalf, sinHalf}
+use Rattle.units.specs.Unit.{unit, oneMinusUnit}
+use Rattle.groups_normal_f64.specs.Four.{rows}
+
+-- ---- j rows of eight are made, and l lanes of the next
+pub record Rowing (f : ℕ → Float) (b : List ℕ) (n : ℕ) (x : List Float) (j l : ℕ) : Type 0 where
+  pub made : Tabled 32 (rows f b n) nan x (8 * j + l)
+  pub few : l ≤ 8
+
+module _ {f : ℕ → Float} {b : List ℕ} {n : ℕ} {x : List Float} where
+  pub rows-none : length x ≡ 32 → Rowing f b n x 0 0
+  rows-none e = record { made = tabled-none e; few = omega arith }
+
+  module _ {j l : ℕ} (w : Rowing f b n x j l) where
+    pub rows-more : {v : Float} → j < 4 → l < 8 → (m : ℕ) → v ≡ f (getD b m 0) → m ≡ n + 16 * j + l → Rowing f b n (set x (8 * j + l) v) j (l + 1)
+    rows-more h k m e p =
+        let next : 8 * j + (l + 1) ≡ 8 * j + l + 1 = omega arith in
+        let place : m ≡ n + 16 * ((8 * j + l) / 8) + (8 * j + l) % 8 = omega arith in
+        record { made = rw next (tabled-more (w .made) (omega arith) (e ∙ ap (λ (i : ℕ). f (getD b i 0)) place)); few = omega arith }
+
+    pub rows-next : 8 ≤ l → Rowing f b n x (j + 1) 0
+    rows-next h = let next : 8 * (j + 1) + 0 ≡ 8 * j + l = omega (arith, w .few) in record { made = rw next (w .made); few = omega arith }
+
+    pub rows-end : 4 ≤ j → x ≡ table 32 (rows f b n)
+    rows-end h = tabled-end (w .made) (omega arith)
+
+-- ---- group j of the four, from the lanes of all
+module _ (b : List ℕ) (g j : ℕ) (h : j < 4) {u1 u2 : List Float} (p : u1 ≡ table 32 (rows (oneMinusUnit binary64) b (16 * g))) (q : u2 ≡ table 32 (rows (unit binary64) b (16 * g + 8))) where
+  left : List ℕ
+  left = drop (2 * g * 8) b
+
+  lane : (f : ℕ → Float) (n m k : ℕ) → n + 16 * ((j * 8 + k) / 8) + (j * 8 + k) % 8 ≡ 2 * g * 8 + m → rows f b n (j * 8 + k) ≡ f (getD left m 0)
+  unfolding left
+  lane f n m k e = ap (λ (i : ℕ). f (getD b i 0)) e ∙ ap f (sym (getD-drop (2 * g * 8) b m 0))
+
+  drawn : (f : ℕ → Float) (d : ℕ) → map f (drawOf left d) ≡ table 8 (λ k. f (getD left (d * 8 + k) 0))
+  unfolding drawOf
+  drawn f d = map-table f 8 _
+
+  -- lanes j * 8 to j * 8 + 7 of a half are that half of the group
+  eight : (half : Float → Float → Float) {z v : List Float} → z ≡ zipWith half u1 u2 → v ≡ table 8 (λ k. getD z (j * 8 + k) nan)
+      → v ≡ zipWith half (map (oneMinusUnit binary64) (drawOf left (2 * j + 0))) (map (unit binary64) (drawOf left (2 * j + 1)))
+  eight half {z} {v} r e =
+      let whole : z ≡ table 32 (λ k. half (rows (oneMinusUnit binary64) b (16 * g) k) (rows (unit binary64) b (16 * g + 8) k)) = r ∙ (λ i. zipWith half (p i) (q i)) ∙ zip-tables half 32 _ _ in
+      e
+      ∙ table-same 8 _ _ (λ k l. ap (λ (o : List Float). getD o (j * 8 + k) nan) whole ∙ getD-table 32 _ (j * 8 + k) nan (omega arith)
+      ∙ (λ i. half (lane (oneMinusUnit binary64) (16 * g) ((2 * j + 0) * 8 + k) k (omega arith) i) (lane (unit binary64) (16 * g + 8) ((2 * j + 1) * 8 + k) k (omega arith) i)))
+      ∙ sym ((λ i. zipWith half (drawn (oneMinusUnit binary64) (2 * j + 0) i) (drawn (unit binary64) (2 * j + 1) i)) ∙ zip-tables half 8 _ _)
+
+  -- a turn of the loop that stores the four: the cosine halves in z and the sine halves in y
+  pub four-more : {l out m out′ z y v w : List Float} {at : ℕ} → Grouping normalF64s (drop (2 * g * 8) b) l at 4 out j → z ≡ zipWith (cosHalf binary64) u1 u2 → y ≡ zipWith (sinHalf binary64) u1 u2
+      → v ≡ table 8 (λ k. getD z (j * 8 + k) nan) → w ≡ table 8 (λ k. getD y (j * 8 + k) nan) → m ≡ stored out (at + j * 16) v → out′ ≡ stored m (at + j * 16 + 8) w
+      → Grouping normalF64s (drop (2 * g * 8) b) l at 4 out′ (j + 1)
+  unfolding left
+  four-more G ez ey ev ew em eo =
+      group-more G h (stored-eights _ _ (ap length ev ∙ length-table 8 _) em eo (eight (cosHalf binary64) ez ev) (eight (sinHalf binary64) ey ew)) refl

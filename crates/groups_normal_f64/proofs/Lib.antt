@@ -1,0 +1,2 @@
+-- Four groups at a time.
+pub mod Four

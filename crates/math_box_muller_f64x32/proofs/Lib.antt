@@ -1,0 +1,2 @@
+-- How the loops' parts make the whole.
+pub mod Whole

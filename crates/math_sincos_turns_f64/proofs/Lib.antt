@@ -1,0 +1,2 @@
+-- The parts make the whole.
+pub mod Whole

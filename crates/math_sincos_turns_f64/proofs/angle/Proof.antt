@@ -1,0 +1,13 @@
+-- `math_sincos_turns_f64::angle` meets its contract.
+use lib.Ieee.{ofBits, round}
+use mathlib.Core.Path.{refl}
+use Rattle.math.specs.Turns.{shifted, angle}
+use Rattle.math_sincos_turns_f64.proofs.angle.Statement.{statement}
+use Rattle.math_sincos_turns_f64.proofs.angle.Tie as tie
+
+returns : tie.Need-returns
+unfolding shifted angle ofBits round
+returns c = refl
+
+pub angle-spec : {M : Type 1} → statement M
+angle-spec = tie.close (tie.spec returns)

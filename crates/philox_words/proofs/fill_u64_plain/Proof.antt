@@ -1,0 +1,30 @@
+-- `philox_words::fill_u64_plain` meets its contract.
+use Prim.Native.Nat.{_-_}
+use Rattle.base.specs.Iterate.{iterate}
+use Rattle.fills.proofs.Filling.{Filling, start, more, finish}
+use Rattle.fills.proofs.Sounds.{u64s-sound}
+use Rattle.fills.specs.Kinds.{u64s}
+use Rattle.philox_x8.proofs.Theorems.{eight-words}
+use Rattle.philox_x8.specs.Machine.{wordsOf, nextOf, drawn}
+use Rattle.philox_x8.specs.declared.Draw.{Draw}
+use borrow.Author.Needs.{needs}
+use lib.ListN.{length}
+use mathlib.Core.Path.{ap}
+use Rattle.philox_words.proofs.fill_u64_plain.Statement.{statement}
+use Rattle.philox_words.proofs.fill_u64_plain.Tie as tie
+
+abbrev Inv-loop : tie.InvT-loop
+Inv-loop out₀ rng₀ draws₀ at₀ out rng draws at = Filling wordsOf nextOf u64s rng₀ out₀ out at draws rng
+
+abbrev μ-loop : tie.MeasureT-loop
+μ-loop out₀ rng₀ draws₀ at₀ out rng draws at = length out₀ - at
+
+loop-again : tie.Need-loop-again Inv-loop μ-loop
+unfolding drawn iterate
+loop-again c =
+    let p = c .before .before .before in
+    let d = p .before .before .before in
+    more (d .before .before .loop .inv) (search needs) _ (ap (λ (x : Draw). x .words) (d .next-u64x8 .ensures)) (p .put-u64 .ensures) (ap (λ (x : Draw). x .rng) (d .next-u64x8 .ensures))
+
+pub fill-u64-plain-spec : {M : Type 1} → statement M
+fill-u64-plain-spec = tie.close (tie.spec Inv-loop μ-loop (λ c. start eight-words u64s-sound) (λ c κs. search needs) (λ c κs. search needs) (λ c. search needs) (λ c. search needs) (λ c. search needs) loop-again (λ c. search needs) (λ c. finish (c .before .loop .inv) (search needs)))
