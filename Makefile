@@ -1,5 +1,6 @@
 # make test      proves every crate, tries the edits that must be refused, runs the programs and the other tests.
 #                The last line is 'N passed, 0 failed'.
+# make run       proves the program deliver and runs it on ORDER: ENGINE SEED BLOCK FIRST KIND COUNT [raw].
 # make lib       proves the library and puts libgirderpeach.a, libgirderpeach.so and girderpeach.pc in target/lib.
 # make install   puts these and the header below PREFIX.
 # make example   builds target/example/paths from examples/paths.c.
@@ -24,10 +25,23 @@ PROVED := crates.txt $(shell find crates -name '*.rt' -o -name '*.antt')
 # An archive of which the proof failed does not stay.
 .DELETE_ON_ERROR:
 
-.PHONY: test lib install example bench clean $(LIB)/girderpeach.pc
+.PHONY: test run lib install example bench clean $(LIB)/girderpeach.pc
 
 test:
 	@RUST_SRC='$(RUST_SRC)' tests/run
+
+ORDER = xoshiro 42 0 0 normal_f64 20
+
+# The program has no exit status: the closing line on standard error says that all was delivered, and without it this fails.
+run: target/bin/deliver
+	@target/bin/deliver $(ORDER) 2>target/ends; cat target/ends >&2; \
+	    grep -qxE '[0-9]+ [0-9]+' target/ends || { echo 'no closing line: the order was not delivered' >&2; false; }
+
+# What the prover says is kept in target/deliver.log, so that `make run` writes nothing but the values to standard output.
+target/bin/deliver: $(PROVED)
+	@mkdir -p target
+	@echo 'proving deliver and all that it stands on: some minutes, the first time' >&2
+	@rt check deliver >target/deliver.log 2>&1 || { tail -n 20 target/deliver.log >&2; false; }
 
 lib: $(LIB)/libgirderpeach.a $(LIB)/libgirderpeach.so $(LIB)/girderpeach.pc
 
@@ -68,7 +82,7 @@ target/example/paths: examples/paths.c include/girderpeach.h $(LIB)/libgirderpea
 	$(CC) -O2 -Iinclude -o $@ $< $(LIB)/libgirderpeach.a
 
 # The typed fills are called through the libraries that tests/oracle links too.
-bench: $(ARCHIVE) target/staticlib/liboracle_xoshiro.a target/staticlib/liboracle_philox.a
+bench: $(ARCHIVE) target/staticlib/liboracle_xoshiro.a target/staticlib/liboracle_philox.a target/bin/deliver
 	@RUST_SRC='$(RUST_SRC)' bench/run
 
 clean:

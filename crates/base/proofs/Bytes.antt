@@ -1,7 +1,7 @@
 -- The bytes of elements, one element after another: their number, what stands where, and the loop that stores them. For any element
 -- type and width in bytes. Assumes nothing.
 use mathlib.Core.Path.{_≡_, refl, sym, ap, _∙_}
-use mathlib.Core.List.{List, [], _∷_, _++_, map, append-nil, append-assoc}
+use mathlib.Core.List.{List, [], _∷_, _++_, append-nil, append-assoc}
 use Prim.Native.Nat.{ℕ, zero, suc, _+_, _*_, _/_, _%_, _^_, _<_, _≤_}
 use native.Mathlib.Nat.{zero-mul, suc-mul, mul-assoc, zero-add, not-suc-le-zero, le-of-suc-le-suc}
 use native.Mathlib.Numerals.{add-one}
@@ -43,11 +43,6 @@ module _ {A : Type 0} (f : A → List ℕ) where
   unfolding flat
   flat-append [] ys = refl
   flat-append (x ∷ xs) ys = ap (λ (l : List ℕ). f x ++ l) (flat-append xs ys) ∙ sym (append-assoc (f x) (flat f xs) (flat f ys))
-
-  pub flat-map : {B : Type 0} (g : B → A) (xs : List B) → flat f (map g xs) ≡ flat (λ x. f (g x)) xs
-  unfolding flat
-  flat-map g [] = refl
-  flat-map g (x ∷ xs) = ap (λ (l : List ℕ). f (g x) ++ l) (flat-map g xs)
 
   module _ (w : ℕ) (wide : (a : A) → length (f a) ≡ w) where
     pub flat-length : (l : List A) → length (flat f l) ≡ length l * w

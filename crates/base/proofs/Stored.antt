@@ -8,7 +8,7 @@ use native.Mathlib.Decide.{decLe}
 use native.Mathlib.Numerals.{add-one}
 use native.Mathlib.Omega.{arith}
 use lib.ListN.{length, take, getD, set, length-set}
-use lib.Seq.{sets, length-sets, set-out, take-all, take-suc, length-take-le, getD-set-same, getD-set-other, ext-getD}
+use lib.Seq.{sets, length-sets, set-out, take-all, take-suc, length-take-le, getD-set-same, getD-set-other}
 use Rattle.base.specs.Stored.{stored}
 
 module _ {A : Type 0} where
@@ -110,20 +110,3 @@ module _ {A : Type 0} {w : ℕ} {l : List A} {at : ℕ} {v : List A} {n : ℕ} w
         | yes p ↦ sets-short v i l at (omega arith)
         | no q ↦ ap (sets l at) (take-all i v (omega arith))
       ]
-
--- a list of eight is its elements one after another
-module _ {A : Type 0} where
-  pub list-eight : (d : A) (v : List A) → length v ≡ 8
-      → getD v 0 d ∷ getD v 1 d ∷ getD v 2 d ∷ getD v 3 d ∷ getD v 4 d ∷ getD v 5 d ∷ getD v 6 d ∷ getD v 7 d ∷ [] ≡ v
-  list-eight d v h = ext-getD d _ v (sym h) (λ i b. at i b)
-    where
-      at : (i : ℕ) → i < 8 → getD (getD v 0 d ∷ getD v 1 d ∷ getD v 2 d ∷ getD v 3 d ∷ getD v 4 d ∷ getD v 5 d ∷ getD v 6 d ∷ getD v 7 d ∷ []) i d ≡ getD v i d
-      at zero b = refl
-      at (suc zero) b = refl
-      at (suc (suc zero)) b = refl
-      at (suc (suc (suc zero))) b = refl
-      at (suc (suc (suc (suc zero)))) b = refl
-      at (suc (suc (suc (suc (suc zero))))) b = refl
-      at (suc (suc (suc (suc (suc (suc zero)))))) b = refl
-      at (suc (suc (suc (suc (suc (suc (suc zero))))))) b = refl
-      at (suc (suc (suc (suc (suc (suc (suc (suc i)))))))) b = absurd (omega arith)

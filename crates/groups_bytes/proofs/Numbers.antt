@@ -10,11 +10,7 @@ use Rattle.fills.specs.Buffer.{bytesKind, groupsAhead, drawsAhead, storedGroups
 use Rattle.fills.specs.Fill.{roundUp}
 use Rattle.fills.specs.FillBytes.{refusalOf}
 use Rattle.fills.specs.Kinds.{AnyKind, kinds, kindAt, of, u64s}
-
--- kind 1 stands for the numbers that are no kind's
-past-6 : (k : ℕ) → kindAt (suc (suc (suc (suc (suc (suc (suc k))))))) ≡ of u64s
-unfolding kindAt
-past-6 k = let e : suc (suc (suc (suc (suc (suc (suc k)))))) - 1 ≡ suc (suc (suc (suc (suc (suc k))))) = omega arith in ap (λ (n : ℕ). getD kinds n (of u64s)) e
+use Rattle.kinds.proofs.Numbers.{past-6}
 
 is-other : (k : ℕ) → (k ≡ 2 → ⊥) → (k ≡ 3 → ⊥) → (k ≡ 4 → ⊥) → (k ≡ 5 → ⊥) → (k ≡ 6 → ⊥) → kindAt k ≡ of u64s
 unfolding kindAt
@@ -64,22 +60,6 @@ module _ (k : ℕ) (b l : List ℕ) (at : ℕ) {out : List ℕ} where
 pub double-draws : (k : ℕ) → k ≡ 6 → (n : ℕ) → drawsAhead (bytesKind (kindAt k .kind)) n ≡ 2 * min (roundUp n 128) 8
 unfolding kindAt
 double-draws k e n = ap (λ (K : AnyKind). drawsAhead (bytesKind (K .kind)) n) (ap kindAt e)
-
--- ---- an element's bytes, by the kind's number
-pub width-4 : (k n : ℕ) → k ≡ n → kindAt n .kind .width ≡ 4 → 4 ≡ kindAt k .kind .width
-width-4 k n e q = sym (ap (λ (m : ℕ). kindAt m .kind .width) e ∙ q)
-
--- kinds 1, 4 and 6, and numbers that are no kind's: 8
-pub width-8 : (k : ℕ) → (k ≡ 2 → ⊥) → (k ≡ 3 → ⊥) → (k ≡ 5 → ⊥) → 8 ≡ kindAt k .kind .width
-unfolding kindAt
-width-8 zero a b c = refl
-width-8 (suc zero) a b c = refl
-width-8 (suc (suc zero)) a b c = absurd (a refl)
-width-8 (suc (suc (suc zero))) a b c = absurd (b refl)
-width-8 (suc (suc (suc (suc zero)))) a b c = refl
-width-8 (suc (suc (suc (suc (suc zero))))) a b c = absurd (c refl)
-width-8 (suc (suc (suc (suc (suc (suc zero)))))) a b c = refl
-width-8 (suc (suc (suc (suc (suc (suc (suc k))))))) a b c = ap (λ (L : AnyKind). L .kind .width) (sym (past-6 k))
 
 -- ---- the refusal, by the tests that the code makes
 module _ (k n : ℕ) where

@@ -115,24 +115,8 @@ pub fn refusal_of(kind: u64, len: usize) -> u64
     if kind > 6 {
         return 4;
     }
-    if len % width(kind) == 0 {
+    if len % kinds::width(kind) == 0 {
         return 0;
     }
     5
-}
-
-// The bytes of an element.
-fn width(kind: u64) -> usize
-    ensures { λ r. ⌜ (r ≡ kindAt kind .kind .width) × (0 < r) ⌝ }
-{
-    if kind == 2 {
-        return 4;
-    }
-    if kind == 3 {
-        return 4;
-    }
-    if kind == 5 {
-        return 4;
-    }
-    8
 }

@@ -23,5 +23,8 @@ loop-again c =
     let l = d .before .before in
     group-more (l .before .loop .inv) (search needs) (p .write-f32 .ensures) (ap (λ w. f32s .group (λ _. w)) (d .draw-of .ensures ∙ ap (drawOf _) (omega arith)))
 
+returns : tie.Need-returns Inv-loop μ-loop
+returns c = group-end (c .before .loop .inv) (search needs)
+
 pub map-f32-spec : {M : Type 1} → statement M
-map-f32-spec = tie.close (tie.spec Inv-loop μ-loop (λ c κs. search needs) (λ c. group-none) (λ c. search needs) (λ c. search needs) (λ c κs. search needs) (λ c κs. search needs) (λ c. search needs) (λ c. search needs) loop-again (λ c. search needs) (λ c. group-end (c .before .loop .inv) (search needs)))
+map-f32-spec = tie.close (tie.spec Inv-loop μ-loop (λ c κs. search needs) (λ c. group-none) (λ c. search needs) (λ c. search needs) (λ c κs. search needs) (λ c κs. search needs) (λ c. search needs) (λ c. search needs) loop-again (λ c. search needs) returns)

@@ -1,0 +1,174 @@
+// An order in, its numbers out: deliver ENGINE SEED BLOCK FIRST KIND COUNT [raw].
+use delivery::Delivery;
+ghost use mathlib.Core.Path.{_≡_};
+ghost use lib.ListN.{length};
+use libc::STDERR_FILENO;
+use libc::STDOUT_FILENO;
+use order::Order;
+
+// Whether a write took everything. Where it did not, standard error says why.
+fn told(ok: bool) -> bool {
+    if !ok {
+        os::fail(b"deliver: standard output");
+    }
+    ok
+}
+
+// The values' bytes by way of a buffer, part after part, until all are out or a write fails.
+fn write_raw(d: Delivery, values: &mut [u8]) -> bool {
+    let mut rest = d;
+    while rest.left > 0 {
+        let part = delivery::next_part(rest, values);
+        let n = part.bytes;
+        // never: it takes a kind that is none, or a small buffer
+        if n == 0 {
+            return false;
+        }
+        if !told(io::write_all(STDOUT_FILENO, &values[..n])) {
+            return false;
+        }
+        rest = part.rest;
+    }
+    true
+}
+
+// The values one to a line, likewise.
+fn write_text(d: Delivery, values: &mut [u8], text: &mut [u8]) -> bool {
+    let kind = d.kind;
+    let mut rest = d;
+    while rest.left > 0 {
+        let part = delivery::next_part(rest, values);
+        let n = part.bytes;
+        if n == 0 {
+            return false;
+        }
+        let m = lines::put_lines(kind, &values[..n], text);
+        // never: it takes a text of less than 25 bytes for each value
+        if m == 0 {
+            return false;
+        }
+        if !told(io::write_all(STDOUT_FILENO, &text[..m])) {
+            return false;
+        }
+        rest = part.rest;
+    }
+    true
+}
+
+// The numbers that an order book keeps: the order's first draw, and the first draw after it. They say that all was delivered.
+fn report(first: u64, draws: u64) {
+    let mut line = io::buffer();
+    let n = lines::put_ends(first, draws, &mut line);
+    io::write_all(STDERR_FILENO, &line[..n]);
+}
+
+// 10,240 bytes: at most 2,560 values, whose lines have 64,000 bytes at most, which `io::large_buffer` holds.
+fn small_buffer() -> [u8; 10240]
+    ensures { λ r. ⌜ 10240 ≡ length r ⌝ }
+{
+    [0; 10240]
+}
+
+fn deliver(o: Order) {
+    let source = source::start(o.engine, o.seed, o.block, o.first);
+    let d = Delivery {
+        source,
+        kind: o.kind,
+        left: o.count,
+    };
+    let mut large = io::large_buffer();
+    let raw = o.raw;
+    let whole = if raw {
+        write_raw(d, &mut large)
+    } else {
+        let mut small = small_buffer();
+        write_text(d, &mut small, &mut large)
+    };
+    if whole {
+        report(o.first, o.draws);
+    }
+}
+
+// What argument `n` of an order takes, or why the order as a whole is refused.
+fn refuse(n: u64) {
+    if n == 1 {
+        io::write_all(STDERR_FILENO, b"deliver: ENGINE: xoshiro or philox\n");
+    } else if n == 2 {
+        io::write_all(
+            STDERR_FILENO,
+            b"deliver: SEED: a whole number in decimal digits, with no zero in front, from 0 to 18446744073709551615\n",
+        );
+    } else if n == 3 {
+        io::write_all(
+            STDERR_FILENO,
+            b"deliver: BLOCK: a whole number in decimal digits, with no zero in front, from 0 to 2305843009213693951 for xoshiro, to 18446744073709551615 for philox\n",
+        );
+    } else if n == 4 {
+        io::write_all(
+            STDERR_FILENO,
+            b"deliver: FIRST: a whole number in decimal digits, with no zero in front, from 0 to 18446744073709551615 for xoshiro, to 4611686018427387903 for philox\n",
+        );
+    } else if n == 5 {
+        io::write_all(
+            STDERR_FILENO,
+            b"deliver: KIND: 1 to 6, or u64, u32, f32, f64, normal_f32, normal_f64\n",
+        );
+    } else if n == 6 {
+        io::write_all(
+            STDERR_FILENO,
+            b"deliver: COUNT: a whole number in decimal digits, with no zero in front, from 0 to 18446744073709551615\n",
+        );
+    } else if n == 7 {
+        io::write_all(
+            STDERR_FILENO,
+            b"deliver: the last argument: raw, or nothing\n",
+        );
+    } else if n == 8 {
+        io::write_all(
+            STDERR_FILENO,
+            b"deliver: COUNT: FIRST and the draws of COUNT values come to more than 18446744073709551616 for xoshiro, 4611686018427387904 for philox\n",
+        );
+    } else {
+        io::write_all(
+            STDERR_FILENO,
+            b"deliver: usage: deliver ENGINE SEED BLOCK FIRST KIND COUNT [raw]\n",
+        );
+    }
+}
+
+// Argument `i`, or zeros where there is none. One of 32 bytes or more is cut, and then no 0 ends it, so that it is refused.
+fn argument(i: usize) -> [u8; 32] {
+    let mut text = [0u8; 32];
+    os::arg(i, &mut text);
+    text
+}
+
+fn main() {
+    let engine = argument(1);
+    let seed = argument(2);
+    let block = argument(3);
+    let first = argument(4);
+    let kind = argument(5);
+    let count = argument(6);
+    let last = argument(7);
+    // the program's own name is one of them
+    let given = os::arg_count();
+    let o = if given == 0 {
+        order::read(0, &engine, &seed, &block, &first, &kind, &count, &last)
+    } else {
+        order::read(
+            given - 1,
+            &engine,
+            &seed,
+            &block,
+            &first,
+            &kind,
+            &count,
+            &last,
+        )
+    };
+    if o.refusal != 0 {
+        return refuse(o.refusal);
+    }
+    deliver(o);
+}

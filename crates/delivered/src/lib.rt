@@ -1,0 +1,1 @@
+// What the program deliver writes: definitions and theorems (specs/, proofs/), no code.

@@ -1,0 +1,114 @@
+-- The claims of specs/Claims.antt. Assumes nothing.
+use mathlib.Core.List.{List, [], _∷_, _++_}
+use mathlib.Core.Path.{_≡_, refl, sym, ap, _∙_, subst}
+use Prim.Native.Nat.{ℕ, _+_, _-_, _*_, _%_}
+use native.Mathlib.Decide.{ℕ-discrete}
+use native.Mathlib.Nat.{zero-mul, mul-mod-left}
+use native.Mathlib.Omega.{arith}
+use lib.ListN.{length, take, drop}
+use lib.Seq.{take-at}
+use Rattle.base.specs.Iterate.{iterate}
+use Rattle.base.proofs.Iterate.{iterate-then}
+use Rattle.fills.specs.FillBytes.{bytesWritten, bytesDraws}
+use Rattle.source.specs.Source.{wordsOf, nextOf, startOf}
+use Rattle.source.specs.declared.Source.{Source}
+use Rattle.delivery.specs.Delivery.{widthOf, wordsFrom, placesOf, NextPart}
+use Rattle.delivery.specs.Claims.{OneFill, TwoFills, TwoOrders, ByElements, AsTheyAre, wholeOf, drawsOf, Joined, deliveryOf, Delivered}
+use Rattle.delivery.specs.declared.Delivery.{Delivery}
+use Rattle.delivery.proofs.Joining.{none-drawn, none-written, length-written, whole-then, then-none}
+use Rattle.delivery.proofs.Room.{fits}
+
+pub two-fills : TwoFills
+two-fills G words next g k n m h = whole-then words next g k n m h
+
+pub as-they-are : AsTheyAre
+as-they-are w = record { none = refl; both = λ a b h. refl }
+
+-- n places are whole elements
+whole-bytes : (k n : ℕ) (W : ℕ → List ℕ) → length (bytesWritten k W (n * widthOf k)) % widthOf k ≡ 0
+whole-bytes k n W = ap (λ (x : ℕ). x % widthOf k) (length-written k W n) ∙ mul-mod-left n (widthOf k)
+
+pub two-orders : TwoOrders
+two-orders f engine seed block first k n m B h =
+    let s : Source = iterate nextOf first (startOf engine seed block) in
+    let w : ℕ = widthOf k in
+    let after = sym (iterate-then nextOf first (bytesDraws k (n * w)) (startOf engine seed block)) in
+    ap f (whole-then wordsOf nextOf s k n m h .bytes)
+    ∙ B .both (bytesWritten k (wordsFrom s) (n * w)) _ (whole-bytes k n (wordsFrom s))
+    ∙ ap (λ (x : Source). f (bytesWritten k (wordsFrom s) (n * w)) ++ f (bytesWritten k (wordsFrom x) (m * w))) after
+
+-- ---- a delivery with nothing left
+module _ (d : Delivery) (e : d .left ≡ 0) where
+  no-bytes : d .left * widthOf (d .kind) ≡ 0
+  no-bytes = ap (λ (n : ℕ). n * widthOf (d .kind)) e ∙ zero-mul (widthOf (d .kind))
+
+  nothing-whole : wholeOf d ≡ []
+  nothing-whole = ap (bytesWritten (d .kind) (wordsFrom (d .source))) no-bytes ∙ none-written (d .kind) (wordsFrom (d .source))
+
+  nothing-drawn : d .source ≡ iterate nextOf (drawsOf d) (d .source)
+  unfolding iterate
+  nothing-drawn = ap (λ (n : ℕ). iterate nextOf n (d .source)) (sym (ap (bytesDraws (d .kind)) no-bytes ∙ none-drawn (d .kind)))
+
+-- ---- a part and what is left after it
+module _ {d rest : Delivery} {before after : List ℕ} {bytes : ℕ} (P : NextPart d before after bytes rest) where
+  abbrev places : ℕ
+  places = placesOf (d .kind) (d .left) (length before)
+
+  -- the bytes that the part handed out
+  handed : take bytes after ≡ bytesWritten (d .kind) (wordsFrom (d .source)) (places * widthOf (d .kind))
+  handed =
+      let k : ℕ = d .kind in
+      let W = wordsFrom (d .source) in
+      let long : length (bytesWritten k W bytes) ≡ bytes = ap (λ (n : ℕ). length (bytesWritten k W n)) (P .count) ∙ length-written k W places ∙ sym (P .count) in
+      ap (take bytes) (P .writes) ∙ take-at (bytesWritten k W bytes) (drop bytes before) bytes long ∙ ap (bytesWritten k W) (P .count)
+
+  -- the fill of the part and that of the rest are the whole fill
+  parted : OneFill wordsOf nextOf (d .source) (d .kind) places (d .left - places)
+  parted = go (ℕ-discrete places (d .left))
+    where
+      go : Dec (places ≡ d .left) → OneFill wordsOf nextOf (d .source) (d .kind) places (d .left - places)
+      go (yes e) = subst (OneFill wordsOf nextOf (d .source) (d .kind) places) (omega arith) (then-none wordsOf nextOf (d .source) (d .kind) places)
+      go (no h) = whole-then wordsOf nextOf (d .source) (d .kind) places (d .left - places) (fits (d .kind) (d .left) (length before) .whole h)
+
+  all-places : d .left ≡ places + (d .left - places)
+  all-places = omega (arith, fits (d .kind) (d .left) (length before) .few)
+
+  part-draws : bytesDraws (d .kind) (places * widthOf (d .kind)) ≡ bytesDraws (d .kind) bytes
+  part-draws = ap (bytesDraws (d .kind)) (sym (P .count))
+
+  whole-parts : wholeOf d ≡ take bytes after ++ wholeOf rest
+  whole-parts =
+      let k : ℕ = d .kind in
+      let W = wordsFrom (d .source) in
+      let m : ℕ = d .left - places in
+      let first = sym handed in
+      ap (λ (n : ℕ). bytesWritten k W (n * widthOf k)) all-places
+      ∙ parted .bytes
+      ∙ (λ i. first i ++ bytesWritten k (wordsFrom (iterate nextOf (part-draws i) (d .source))) (m * widthOf k))
+      ∙ ap (λ (x : Delivery). take bytes after ++ wholeOf x) (sym (P .remains))
+
+  draws-parts : iterate nextOf (drawsOf d) (d .source) ≡ iterate nextOf (drawsOf rest) (rest .source)
+  draws-parts =
+      let k : ℕ = d .kind in
+      let m : ℕ = d .left - places in
+      ap (λ (n : ℕ). iterate nextOf n (d .source)) (ap (λ (n : ℕ). bytesDraws k (n * widthOf k)) all-places ∙ parted .draws)
+      ∙ iterate-then nextOf (bytesDraws k (places * widthOf k)) (bytesDraws k (m * widthOf k)) (d .source)
+      ∙ ap (λ (n : ℕ). iterate nextOf (bytesDraws k (m * widthOf k)) (iterate nextOf n (d .source))) part-draws
+      ∙ ap (λ (x : Delivery). iterate nextOf (drawsOf x) (x .source)) (sym (P .remains))
+
+  -- the part holds whole elements
+  whole-elements : length (take bytes after) % widthOf (d .kind) ≡ 0
+  whole-elements = ap (λ (l : List ℕ). length l % widthOf (d .kind)) handed ∙ whole-bytes (d .kind) places (wordsFrom (d .source))
+
+pub joined : Joined
+joined f d [] B r e = (sym (ap f (nothing-whole d e) ∙ B .none), nothing-drawn d e)
+joined f d (s ∷ steps) B (P, r) e =
+    let part : List ℕ = take (s .part .bytes) (s .after) in
+    let rest : Delivery = s .part .rest in
+    let J = joined f rest steps (subst (λ (x : Delivery). ByElements (widthOf (x .kind)) f) (sym (P .remains)) B) r e in (
+      ap (λ (l : List ℕ). f part ++ l) (J .0) ∙ sym (B .both part (wholeOf rest) (whole-elements P)) ∙ ap f (sym (whole-parts P)),
+      J .1 ∙ sym (draws-parts P),
+    )
+
+pub delivered : Delivered
+delivered f engine seed block first k n steps B r e = joined f (deliveryOf engine seed block first k n) steps B r e .0

@@ -1,0 +1,84 @@
+-- What is claimed of fills in parts. Each claim is proved in proofs/Theorems.antt.
+use mathlib.Core.List.{List, [], _∷_, _++_}
+use mathlib.Core.Path.{_≡_}
+use Prim.Native.Nat.{ℕ, _+_, _*_, _%_}
+use lib.ListN.{length, take}
+use Rattle.base.specs.Iterate.{iterate}
+use Rattle.fills.specs.FillBytes.{bytesWritten, bytesDraws}
+use Rattle.source.specs.Source.{nextOf, startOf}
+use Rattle.delivery.specs.Delivery.{widthOf, wordsFrom, NextPart}
+use Rattle.delivery.specs.declared.Delivery.{Delivery}
+use Rattle.delivery.specs.declared.Part.{Part}
+
+-- ---- two fills, the second from the generator after the first, are one: their bytes joined, and their draws added up
+pub record OneFill {G : Type 0} (words : G → List ℕ) (next : G → G) (g : G) (k n m : ℕ) : Type 0 where
+  pub bytes : bytesWritten k (λ i. words (iterate next i g)) ((n + m) * widthOf k)
+      ≡ bytesWritten k (λ i. words (iterate next i g)) (n * widthOf k) ++ bytesWritten k (λ i. words (iterate next i (iterate next (bytesDraws k (n * widthOf k)) g))) (m * widthOf k)
+  pub draws : bytesDraws k ((n + m) * widthOf k) ≡ bytesDraws k (n * widthOf k) + bytesDraws k (m * widthOf k)
+
+-- on any engine, where the first has a multiple of 16 places
+abbrev pub TwoFills : Type 1
+TwoFills = (G : Type 0) (words : G → List ℕ) (next : G → G) (g : G) (k n m : ℕ) → n % 16 ≡ 0 → OneFill words next g k n m
+
+-- ---- how bytes are written out
+-- f writes elements of w bytes one after another, each for itself: as a line of text, say
+pub record ByElements (w : ℕ) (f : List ℕ → List ℕ) : Type 0 where
+  pub none : f [] ≡ []
+  pub both : (a b : List ℕ) → length a % w ≡ 0 → f (a ++ b) ≡ f a ++ f b
+
+-- so the bytes as they are are written
+abbrev pub AsTheyAre : Type 0
+AsTheyAre = (w : ℕ) → ByElements w (λ l. l)
+
+-- ---- the bytes of an order: n places of kind k from draw `first` on of an engine's seed and block
+abbrev pub ordered : ℕ → ℕ → ℕ → ℕ → ℕ → ℕ → List ℕ
+ordered engine seed block first k n = bytesWritten k (wordsFrom (iterate nextOf first (startOf engine seed block))) (n * widthOf k)
+
+-- an order of n places, n a multiple of 16, and one of m places that begins where its draws end, written one after the other, are what an
+-- order of n + m places writes
+abbrev pub TwoOrders : Type 0
+TwoOrders = (f : List ℕ → List ℕ) (engine seed block first k n m : ℕ) → ByElements (widthOf k) f → n % 16 ≡ 0
+    → f (ordered engine seed block first k (n + m)) ≡ f (ordered engine seed block first k n) ++ f (ordered engine seed block (first + bytesDraws k (n * widthOf k)) k m)
+
+-- ---- a delivery in parts
+-- a call of next_part: the buffer at the call and at the return, and what was handed back
+pub record Step : Type 0 where
+  pub before : List ℕ
+  pub after : List ℕ
+  pub part : Part
+
+-- the calls were made one after another, each on what the one before it left; the buffers may differ
+abbrev pub Run : Delivery → List Step → Type 0
+Run d [] = Unit {0}
+Run d (s ∷ steps) = NextPart d (s .before) (s .after) (s .part .bytes) (s .part .rest) × Run (s .part .rest) steps
+
+-- what is left after them
+abbrev pub restOf : Delivery → List Step → Delivery
+restOf d [] = d
+restOf d (s ∷ steps) = restOf (s .part .rest) steps
+
+-- the parts joined, each written as f says
+abbrev pub joinedBy : (List ℕ → List ℕ) → List Step → List ℕ
+joinedBy f [] = []
+joinedBy f (s ∷ steps) = f (take (s .part .bytes) (s .after)) ++ joinedBy f steps
+
+-- the bytes of the fill of all places of a delivery, and its draws
+abbrev pub wholeOf : Delivery → List ℕ
+wholeOf d = bytesWritten (d .kind) (wordsFrom (d .source)) (d .left * widthOf (d .kind))
+
+abbrev pub drawsOf : Delivery → ℕ
+drawsOf d = bytesDraws (d .kind) (d .left * widthOf (d .kind))
+
+-- where nothing is left after the calls, the parts joined are the one fill, and the source stands where its draws end
+abbrev pub Joined : Type 0
+Joined = (f : List ℕ → List ℕ) (d : Delivery) (steps : List Step) → ByElements (widthOf (d .kind)) f → Run d steps → restOf d steps .left ≡ 0
+    → (joinedBy f steps ≡ f (wholeOf d)) × (restOf d steps .source ≡ iterate nextOf (drawsOf d) (d .source))
+
+-- so a delivery of an order, part by part until nothing is left, writes what the order says
+abbrev pub deliveryOf : ℕ → ℕ → ℕ → ℕ → ℕ → ℕ → Delivery
+deliveryOf engine seed block first k n = record { source = iterate nextOf first (startOf engine seed block); kind = k; left = n }
+
+abbrev pub Delivered : Type 0
+Delivered = (f : List ℕ → List ℕ) (engine seed block first k n : ℕ) (steps : List Step) → ByElements (widthOf k) f
+    → Run (deliveryOf engine seed block first k n) steps → restOf (deliveryOf engine seed block first k n) steps .left ≡ 0
+    → joinedBy f steps ≡ f (ordered engine seed block first k n)

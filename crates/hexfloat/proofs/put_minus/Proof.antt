@@ -1,0 +1,14 @@
+-- `hexfloat::put_minus` meets its contract.
+use Rattle.hexfloat.proofs.Laws.{minus-yes, minus-no}
+use borrow.Author.Needs.{needs}
+use Rattle.hexfloat.proofs.put_minus.Statement.{statement}
+use Rattle.hexfloat.proofs.put_minus.Tie as tie
+
+returns : tie.Need-returns
+returns c = minus-yes _ _ (c .if1 .taken)
+
+returns-2 : tie.Need-returns-2
+returns-2 c = minus-no _ _ (c .if1 .left)
+
+pub put-minus-spec : {M : Type 1} → statement M
+put-minus-spec = tie.close (tie.spec (λ c. search needs) (λ c. search needs) (λ c. search needs) returns returns-2)

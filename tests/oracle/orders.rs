@@ -1,0 +1,41 @@
+//! What `deliver` should write, from the Rust: `orders ENGINE SEED BLOCK FIRST KIND COUNT` writes the values' little-endian bytes to standard
+//! output, and FIRST and END to standard error. END is counted, not computed: a copy of the generator is drawn from until it is the same again.
+mod forms;
+use forms::{filled, Saved};
+use std::io::Write;
+use tpt_simd_rng::{Philox4x32X8, Rng8, Xoshiro256ppX8};
+
+const NAMES: [&str; 6] = ["u64", "u32", "f32", "f64", "normal_f32", "normal_f64"];
+
+fn deliver<R: Saved + Clone>(mut rng: R, first: u64, kind: u64, count: usize) {
+    let mut copy = rng.clone();
+    let (_, out) = filled(&mut rng, kind, count);
+    std::io::stdout().write_all(&out).expect("standard output");
+    let mut end = first;
+    while copy.form() != rng.form() {
+        copy.next_u64x8();
+        end += 1;
+    }
+    eprintln!("{first} {end}");
+}
+
+fn main() {
+    let args: Vec<String> = std::env::args().skip(1).collect();
+    let number = |i: usize| args[i].parse::<u64>().expect("a number");
+    let (seed, block, first, count) = (number(1), number(2), number(3), number(5) as usize);
+    let kind = NAMES.iter().position(|name| *name == args[4]).map_or_else(|| number(4), |place| place as u64 + 1);
+    if args[0] == "xoshiro" {
+        let mut rng = Xoshiro256ppX8::from_seed_block(seed, block);
+        for _ in 0..first {
+            rng.next_u64x8();
+        }
+        deliver(rng, first, kind, count);
+    } else {
+        let mut rng = Philox4x32X8::new(seed, block);
+        rng.seek(first / 2 * 8);
+        if first % 2 == 1 {
+            rng.next_u64x8();
+        }
+        deliver(rng, first, kind, count);
+    }
+}
