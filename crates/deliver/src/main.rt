@@ -143,6 +143,15 @@ fn argument(i: usize) -> [u8; 32] {
     text
 }
 
+// How many arguments there are, the program's own name not counted.
+fn given() -> usize {
+    let n = os::arg_count();
+    if n == 0 {
+        return 0;
+    }
+    n - 1
+}
+
 fn main() {
     let engine = argument(1);
     let seed = argument(2);
@@ -151,22 +160,16 @@ fn main() {
     let kind = argument(5);
     let count = argument(6);
     let last = argument(7);
-    // the program's own name is one of them
-    let given = os::arg_count();
-    let o = if given == 0 {
-        order::read(0, &engine, &seed, &block, &first, &kind, &count, &last)
-    } else {
-        order::read(
-            given - 1,
-            &engine,
-            &seed,
-            &block,
-            &first,
-            &kind,
-            &count,
-            &last,
-        )
-    };
+    let o = order::read(
+        given(),
+        &engine,
+        &seed,
+        &block,
+        &first,
+        &kind,
+        &count,
+        &last,
+    );
     if o.refusal != 0 {
         return refuse(o.refusal);
     }

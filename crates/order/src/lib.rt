@@ -57,7 +57,7 @@ fn is_word(w: &[u8], s: &[u8]) -> bool
 }
 
 // The engine that an argument names: 1 xoshiro, 2 Philox, 0 none.
-pub fn engine_of(s: &[u8]) -> u64
+fn engine_of(s: &[u8]) -> u64
     ensures { λ r. ⌜ r ≡ engineOf (now (s .entry)) ⌝ }
 {
     if is_word(b"xoshiro\0", s) {
@@ -94,7 +94,7 @@ fn other_kind(s: &[u8]) -> u64
 }
 
 // The kind that an argument names, or 0.
-pub fn kind_of(s: &[u8]) -> u64
+fn kind_of(s: &[u8]) -> u64
     ensures { λ r. ⌜ r ≡ kindOf (now (s .entry)) ⌝ }
 {
     if is_word(b"u64\0", s) {
