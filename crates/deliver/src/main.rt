@@ -14,8 +14,22 @@ fn told(ok: bool) -> bool {
     ok
 }
 
-// The values' bytes by way of a buffer, part after part, until all are out or a write fails.
-fn write_raw(d: Delivery, values: &mut [u8]) -> bool {
+// A part of the values to standard output: its bytes, or by way of `text` its lines.
+fn write_part(kind: u64, raw: bool, part: &[u8], text: &mut [u8]) -> bool {
+    if raw {
+        return told(io::write_all(STDOUT_FILENO, part));
+    }
+    let m = lines::put_lines(kind, part, text);
+    // never: it takes a text of less than 25 bytes for each value
+    if m == 0 {
+        return false;
+    }
+    told(io::write_all(STDOUT_FILENO, &text[..m]))
+}
+
+// Part after part, each made in `values`, until all are out or a write fails.
+fn write_parts(d: Delivery, raw: bool, values: &mut [u8], text: &mut [u8]) -> bool {
+    let kind = d.kind;
     let mut rest = d;
     while rest.left > 0 {
         let part = delivery::next_part(rest, values);
@@ -24,30 +38,7 @@ fn write_raw(d: Delivery, values: &mut [u8]) -> bool {
         if n == 0 {
             return false;
         }
-        if !told(io::write_all(STDOUT_FILENO, &values[..n])) {
-            return false;
-        }
-        rest = part.rest;
-    }
-    true
-}
-
-// The values one to a line, likewise.
-fn write_text(d: Delivery, values: &mut [u8], text: &mut [u8]) -> bool {
-    let kind = d.kind;
-    let mut rest = d;
-    while rest.left > 0 {
-        let part = delivery::next_part(rest, values);
-        let n = part.bytes;
-        if n == 0 {
-            return false;
-        }
-        let m = lines::put_lines(kind, &values[..n], text);
-        // never: it takes a text of less than 25 bytes for each value
-        if m == 0 {
-            return false;
-        }
-        if !told(io::write_all(STDOUT_FILENO, &text[..m])) {
+        if !write_part(kind, raw, &values[..n], text) {
             return false;
         }
         rest = part.rest;
@@ -77,62 +68,59 @@ fn deliver(o: Order) {
         left: o.count,
     };
     let mut large = io::large_buffer();
+    let mut small = small_buffer();
     let raw = o.raw;
     let whole = if raw {
-        write_raw(d, &mut large)
+        write_parts(d, true, &mut large, &mut small)
     } else {
-        let mut small = small_buffer();
-        write_text(d, &mut small, &mut large)
+        write_parts(d, false, &mut small, &mut large)
     };
     if whole {
         report(o.first, o.draws);
     }
 }
 
+fn say(line: &[u8]) {
+    io::write_all(STDERR_FILENO, line);
+}
+
+// What an argument takes that is a number.
+fn say_number(name: &[u8], last: &[u8]) {
+    say(b"deliver: ");
+    say(name);
+    say(b": a whole number in decimal digits, with no zero in front, from 0 to ");
+    say(last);
+    say(b"\n");
+}
+
 // What argument `n` of an order takes, or why the order as a whole is refused.
 fn refuse(n: u64) {
     if n == 1 {
-        io::write_all(STDERR_FILENO, b"deliver: ENGINE: xoshiro or philox\n");
+        say(b"deliver: ENGINE: xoshiro or philox\n");
     } else if n == 2 {
-        io::write_all(
-            STDERR_FILENO,
-            b"deliver: SEED: a whole number in decimal digits, with no zero in front, from 0 to 18446744073709551615\n",
-        );
+        say_number(b"SEED", b"18446744073709551615");
     } else if n == 3 {
-        io::write_all(
-            STDERR_FILENO,
-            b"deliver: BLOCK: a whole number in decimal digits, with no zero in front, from 0 to 2305843009213693951 for xoshiro, to 18446744073709551615 for philox\n",
+        say_number(
+            b"BLOCK",
+            b"2305843009213693951 for xoshiro, to 18446744073709551615 for philox",
         );
     } else if n == 4 {
-        io::write_all(
-            STDERR_FILENO,
-            b"deliver: FIRST: a whole number in decimal digits, with no zero in front, from 0 to 18446744073709551615 for xoshiro, to 4611686018427387903 for philox\n",
+        say_number(
+            b"FIRST",
+            b"18446744073709551615 for xoshiro, to 4611686018427387903 for philox",
         );
     } else if n == 5 {
-        io::write_all(
-            STDERR_FILENO,
-            b"deliver: KIND: 1 to 6, or u64, u32, f32, f64, normal_f32, normal_f64\n",
-        );
+        say(b"deliver: KIND: 1 to 6, or u64, u32, f32, f64, normal_f32, normal_f64\n");
     } else if n == 6 {
-        io::write_all(
-            STDERR_FILENO,
-            b"deliver: COUNT: a whole number in decimal digits, with no zero in front, from 0 to 18446744073709551615\n",
-        );
+        say_number(b"COUNT", b"18446744073709551615");
     } else if n == 7 {
-        io::write_all(
-            STDERR_FILENO,
-            b"deliver: the last argument: raw, or nothing\n",
-        );
+        say(b"deliver: the last argument: raw, or nothing\n");
     } else if n == 8 {
-        io::write_all(
-            STDERR_FILENO,
+        say(
             b"deliver: COUNT: FIRST and the draws of COUNT values come to more than 18446744073709551616 for xoshiro, 4611686018427387904 for philox\n",
         );
     } else {
-        io::write_all(
-            STDERR_FILENO,
-            b"deliver: usage: deliver ENGINE SEED BLOCK FIRST KIND COUNT [raw]\n",
-        );
+        say(b"deliver: usage: deliver ENGINE SEED BLOCK FIRST KIND COUNT [raw]\n");
     }
 }
 

@@ -12,7 +12,7 @@ use Rattle.decimal.specs.declared.Number.{Number}
 use Rattle.decimal.specs.declared.Number.the-variants.{Value, Wrong}
 use Rattle.order.proofs.Reading.{past, within}
 use Rattle.order.specs.Claims.{Accepted, Orders}
-use Rattle.order.specs.Order.{engineOf, kindOf, otherKind, numbered, lastBlock, lastDraw, refused, originOf, withDraws, withValues, orderOf}
+use Rattle.order.specs.Order.{engineOf, kindOf, numbered, lastBlock, lastDraw, refused, originOf, withDraws, withValues, orderOf}
 use Rattle.order.specs.Words.{startsWith, found}
 use Rattle.order.specs.Words as words
 use Rattle.order.specs.declared.Order.{Order}
@@ -32,7 +32,7 @@ unfolding engineOf
 engine-known s = by-test (λ e. e ≤ 2) (startsWith words.xoshiro s) (λ _. omega arith) (λ _. by-test (λ e. e ≤ 2) (startsWith words.philox s) (λ _. omega arith) (λ _. omega arith))
 
 kind-known : (s : List ℕ) → kindOf s ≤ 6
-unfolding kindOf otherKind numbered
+unfolding kindOf numbered
 kind-known s =
     named words.u64 (λ _. omega arith) (λ _. named words.u32 (λ _. omega arith) (λ _. named words.f32 (λ _. omega arith) (λ _. named words.f64 (λ _. omega arith) (λ _. named words.normalF32 (λ _. omega arith) (λ _. named words.normalF64 (λ _. omega arith) (λ _. by-number (λ k. k ≤ 6) (numberAt 6 0 s 0) (omega arith) (λ v i e. number-sound 6 0 s 0 v i e .1)))))))
   where

@@ -1,11 +1,11 @@
 // The arguments of an order, ENGINE SEED BLOCK FIRST KIND COUNT [raw], as the numbers that they stand for. Each argument is in an array of
 // zeros that is longer than it, so that a 0 ends it.
 ghost use mathlib.Core.Path.{_≡_};
-ghost use mathlib.Core.Bool.{not};
+ghost use mathlib.Core.Bool.{cond, not};
 ghost use Prim.Native.Nat.{_+_};
 ghost use lib.Dec.{leb};
 ghost use Rattle.order.specs.Words.{startsWith};
-ghost use Rattle.order.specs.Order.{engineOf, numbered, otherKind, kindOf, lastBlock, lastDraw, originOf, withDraws, withValues, orderOf};
+ghost use Rattle.order.specs.Order.{engineOf, numbered, kindOf, lastBlock, lastDraw, originOf, withDraws, withValues, orderOf};
 ghost use Rattle.order.specs.Order.{refused as refusedOrder};
 use decimal::Number;
 
@@ -56,17 +56,22 @@ fn is_word(w: &[u8], s: &[u8]) -> bool
     true
 }
 
+// k where a text starts with the word w, else other.
+fn named(w: &[u8], s: &[u8], k: u64, other: u64) -> u64
+    ensures { λ r. ⌜ r ≡ cond (startsWith (now (w .entry)) (now (s .entry))) k other ⌝ }
+{
+    if is_word(w, s) {
+        return k;
+    }
+    other
+}
+
 // The engine that an argument names: 1 xoshiro, 2 Philox, 0 none.
 fn engine_of(s: &[u8]) -> u64
     ensures { λ r. ⌜ r ≡ engineOf (now (s .entry)) ⌝ }
 {
-    if is_word(b"xoshiro\0", s) {
-        return 1;
-    }
-    if is_word(b"philox\0", s) {
-        return 2;
-    }
-    0
+    let e = named(b"philox\0", s, 2, 0);
+    named(b"xoshiro\0", s, 1, e)
 }
 
 fn numbered_kind(s: &[u8]) -> u64
@@ -78,35 +83,17 @@ fn numbered_kind(s: &[u8]) -> u64
     k
 }
 
-fn other_kind(s: &[u8]) -> u64
-    ensures { λ r. ⌜ r ≡ otherKind (now (s .entry)) ⌝ }
-{
-    if is_word(b"f64\0", s) {
-        return 4;
-    }
-    if is_word(b"normal_f32\0", s) {
-        return 5;
-    }
-    if is_word(b"normal_f64\0", s) {
-        return 6;
-    }
-    numbered_kind(s)
-}
-
-// The kind that an argument names, or 0.
+// The kind that an argument names, by its name or its number, or 0.
 fn kind_of(s: &[u8]) -> u64
     ensures { λ r. ⌜ r ≡ kindOf (now (s .entry)) ⌝ }
 {
-    if is_word(b"u64\0", s) {
-        return 1;
-    }
-    if is_word(b"u32\0", s) {
-        return 2;
-    }
-    if is_word(b"f32\0", s) {
-        return 3;
-    }
-    other_kind(s)
+    let k = numbered_kind(s);
+    let k = named(b"normal_f64\0", s, 6, k);
+    let k = named(b"normal_f32\0", s, 5, k);
+    let k = named(b"f64\0", s, 4, k);
+    let k = named(b"f32\0", s, 3, k);
+    let k = named(b"u32\0", s, 2, k);
+    named(b"u64\0", s, 1, k)
 }
 
 fn last_block(engine: u64) -> u64
