@@ -1,8 +1,9 @@
 # make test      proves every crate, tries the edits that must be refused, runs the programs and the other tests.
 #                The last line is 'N passed, 0 failed'.
 # make run       proves the program deliver and runs it on ORDER: ENGINE SEED BLOCK FIRST KIND COUNT [raw].
-# make lib       proves the library and puts libgirderpeach.a, libgirderpeach.so and girderpeach.pc in target/lib.
-# make install   puts these and the header below PREFIX.
+# make lib       proves the library and puts libgirderpeach.a, libgirderpeach.so and girderpeach.pc in target/lib, and in target/lib/glibc-hwcaps the
+#                shared object for newer processors: the loader takes the newest that the machine runs.
+# make install   puts these, the header and deliver below PREFIX.
 # make example   builds target/example/paths from examples/paths.c.
 # make bench     times the fills beside the Rust's and other generators, and prints the tables of docs/BENCHMARKS.md.
 
@@ -16,9 +17,20 @@ VERSION = 0.1.0
 # Programs that were linked with the shared object ask for it by this name. It changes when a call changes.
 SONAME = libgirderpeach.so.0
 
-# The archive that the prover writes, and where `make lib` puts what it makes of it.
-ARCHIVE = target/staticlib/libgirderpeach.a
+# The levels of x86-64 that everything is compiled for beside plain x86-64, by the names that glibc's loader looks for; and where tools/compile puts
+# what it makes, a folder for each level.
+LEVELS = x86-64-v3 x86-64-v4
+COMPILED = target/levels
 LIB = target/lib
+
+# Another archive to make the library of, for plain x86-64 alone (tests/host).
+ARCHIVE =
+ifneq ($(ARCHIVE),)
+PLAIN = $(ARCHIVE)
+LEVELS =
+else
+PLAIN = $(COMPILED)/girderpeach.made
+endif
 
 PROVED := crates.txt $(shell find crates -name '*.rt' -o -name '*.antt')
 
@@ -30,33 +42,44 @@ PROVED := crates.txt $(shell find crates -name '*.rt' -o -name '*.antt')
 test:
 	@RUST_SRC='$(RUST_SRC)' tests/run
 
-ORDER = xoshiro 42 0 0 normal_f64 20
-
-# The program has no exit status: the closing line on standard error says that all was delivered, and without it this fails.
-run: target/bin/deliver
-	@target/bin/deliver $(ORDER) 2>target/ends; cat target/ends >&2; \
-	    grep -qxE '[0-9]+ [0-9]+' target/ends || { echo 'no closing line: the order was not delivered' >&2; false; }
-
-# What the prover says is kept in target/deliver.log, so that `make run` writes nothing but the values to standard output.
-target/bin/deliver: $(PROVED)
-	@mkdir -p target
-	@echo 'proving deliver and all that it stands on: some minutes, the first time' >&2
-	@rt check deliver >target/deliver.log 2>&1 || { tail -n 20 target/deliver.log >&2; false; }
-
-lib: $(LIB)/libgirderpeach.a $(LIB)/libgirderpeach.so $(LIB)/girderpeach.pc
-
 # Proved again only when a file changed: it takes the better part of a minute.
+$(COMPILED)/%.made: $(PROVED) tools/compile
+	tools/compile $* $(COMPILED) x86-64 $(LEVELS)
+	@touch $@
+
 target/staticlib/lib%.a: $(PROVED)
 	rt staticlib $*
 
-$(LIB)/libgirderpeach.a: $(ARCHIVE)
+ORDER = xoshiro 42 0 0 normal_f64 20
+
+# target/deliver is the program for the level of this machine. It has no exit status: the closing line on standard error says that all was delivered, and without it
+# this fails. What the prover says is kept in target/deliver.log, so that nothing but the values goes to standard output.
+run:
+	@mkdir -p target
+	@$(MAKE) -q $(COMPILED)/deliver.made || echo 'proving deliver and all that it stands on: some minutes, the first time' >&2
+	@$(MAKE) $(COMPILED)/deliver.made >target/deliver.log 2>&1 || { tail -n 20 target/deliver.log >&2; false; }
+	@level=$$(tools/levels | tail -n 1); [ -x $(COMPILED)/$$level/deliver ] || level=x86-64; ln -sf levels/$$level/deliver target/deliver
+	@target/deliver $(ORDER) 2>target/ends; cat target/ends >&2; \
+	    grep -qxE '[0-9]+ [0-9]+' target/ends || { echo 'no closing line: the order was not delivered' >&2; false; }
+
+lib: $(LIB)/libgirderpeach.a $(LIB)/libgirderpeach.so $(LIB)/girderpeach.pc
+
+$(LIB)/libgirderpeach.a: $(PLAIN)
 	@mkdir -p $(LIB)
-	cp $< $@
+	cp $(if $(ARCHIVE),$(ARCHIVE),$(COMPILED)/x86-64/libgirderpeach.a) $@
 
 # Only the calls of the header are visible from outside.
+SHARED = echo '{ global: gp_*; local: *; };' | \
+    $(CC) -shared -Wl,-soname,$(SONAME),--version-script,/dev/stdin,-z,defs -Wl,--whole-archive $(1) -Wl,--no-whole-archive -o $(2)
+
 $(LIB)/$(SONAME): $(LIB)/libgirderpeach.a
-	echo '{ global: gp_*; local: *; };' | \
-	    $(CC) -shared -o $@ -Wl,-soname,$(SONAME),--version-script,/dev/stdin,-z,defs,--whole-archive $< -Wl,--no-whole-archive
+	$(call SHARED,$<,$@)
+	@rm -rf $(LIB)/glibc-hwcaps
+	for level in $(LEVELS); do \
+	    [ -f $(COMPILED)/$$level/libgirderpeach.a ] || continue; \
+	    mkdir -p $(LIB)/glibc-hwcaps/$$level && \
+	    $(call SHARED,$(COMPILED)/$$level/libgirderpeach.a,$(LIB)/glibc-hwcaps/$$level/$(SONAME)) || exit 1; \
+	done
 
 $(LIB)/libgirderpeach.so: $(LIB)/$(SONAME)
 	ln -sf $(SONAME) $@
@@ -67,13 +90,24 @@ $(LIB)/girderpeach.pc:
 	printf '%s\n' 'prefix=$(PREFIX)' 'Name: girderpeach' 'Description: Proved random numbers by seed, block and length' \
 	    'Version: $(VERSION)' 'Cflags: -I$${prefix}/include' 'Libs: -L$${prefix}/lib -lgirderpeach' >$@
 
-install: lib
-	install -d $(DESTDIR)$(PREFIX)/include $(DESTDIR)$(PREFIX)/lib/pkgconfig
+# What is for one level only stands below lib/girderpeach/LEVEL, but for the shared objects, which stand where the loader looks.
+install: lib $(COMPILED)/deliver.made
+	install -d $(DESTDIR)$(PREFIX)/include $(DESTDIR)$(PREFIX)/lib/pkgconfig $(DESTDIR)$(PREFIX)/bin
 	install -m 644 include/girderpeach.h $(DESTDIR)$(PREFIX)/include
 	install -m 644 $(LIB)/libgirderpeach.a $(DESTDIR)$(PREFIX)/lib
 	install -m 755 $(LIB)/$(SONAME) $(DESTDIR)$(PREFIX)/lib
 	ln -sf $(SONAME) $(DESTDIR)$(PREFIX)/lib/libgirderpeach.so
 	install -m 644 $(LIB)/girderpeach.pc $(DESTDIR)$(PREFIX)/lib/pkgconfig
+	install -m 755 tools/deliver $(DESTDIR)$(PREFIX)/bin
+	for level in $(LEVELS); do \
+	    [ -f $(COMPILED)/$$level/libgirderpeach.a ] || continue; \
+	    install -D -m 755 $(LIB)/glibc-hwcaps/$$level/$(SONAME) $(DESTDIR)$(PREFIX)/lib/glibc-hwcaps/$$level/$(SONAME) && \
+	    install -D -m 644 $(COMPILED)/$$level/libgirderpeach.a $(DESTDIR)$(PREFIX)/lib/girderpeach/$$level/libgirderpeach.a || exit 1; \
+	done
+	for level in x86-64 $(LEVELS); do \
+	    [ -f $(COMPILED)/$$level/deliver ] || continue; \
+	    install -D -m 755 $(COMPILED)/$$level/deliver $(DESTDIR)$(PREFIX)/lib/girderpeach/$$level/deliver || exit 1; \
+	done
 
 example: target/example/paths
 
@@ -82,7 +116,7 @@ target/example/paths: examples/paths.c include/girderpeach.h $(LIB)/libgirderpea
 	$(CC) -O2 -Iinclude -o $@ $< $(LIB)/libgirderpeach.a
 
 # The typed fills are called through the libraries that tests/oracle links too.
-bench: $(ARCHIVE) target/staticlib/liboracle_xoshiro.a target/staticlib/liboracle_philox.a target/bin/deliver
+bench: $(foreach name,girderpeach oracle_xoshiro oracle_philox deliver,$(COMPILED)/$(name).made)
 	@RUST_SRC='$(RUST_SRC)' bench/run
 
 clean:

@@ -1,6 +1,6 @@
-/* Our fills beside the Rust's: each kind, both engines, long and short, in one process. The sources of a row take turns, the best of their
- * runs counts, and after every run the bytes are compared. Usage: bench RUST.so [RUST_V3.so], the Rust built for plain x86-64 and for
- * x86-64-v3. Exits with 1 where bytes differ. */
+/* Our fills beside the Rust's, at each level of x86-64: each kind, both engines, long and short, in one process. The sources of a row take
+ * turns, the best of their runs counts, and after every run the bytes are compared. Usage: bench LEVEL=DIR.., the plain level first; DIR has
+ * librust.so, libgirderpeach.so, liboracle_xoshiro.so and liboracle_philox.so, all built for LEVEL. Exits with 1 where bytes differ. */
 #define _GNU_SOURCE
 #include <dlfcn.h>
 #include <stdbool.h>
@@ -13,49 +13,36 @@
 #include "girderpeach.h"
 #include "others.h"
 
-/* The typed fills, from the libraries that tests/oracle links too. A generator of xoshiro is its four rows. */
+enum { RUST, TYPED, LIBRARY, SOURCES };
+enum { XOSHIRO, PHILOX, ENGINES };
+enum { KINDS = 6, MOST = 200000, LEVELS = 4, RUNS = 60 };
+
+static const char *const engines[] = {"xoshiro", "philox"};
+static const char *const kinds[] = {"u64", "u32", "f32", "f64", "normal_f32", "normal_f64"};
+static const size_t widths[] = {8, 4, 4, 8, 4, 8};
+static const size_t lengths[] = {MOST, 1000, 100, 16};
+static const uint64_t SEED = 42;
+
+/* The typed fills are called through the libraries that tests/oracle links too: a generator of xoshiro is its four rows, and one of Philox
+ * these fields. */
 typedef struct {
     uint32_t key[2];
     uint64_t stream, counter;
     bool waiting;
     uint64_t pending[8];
 } philox;
-#define TYPED(name, type)                                                                                                                  \
-    uint64_t oracle_xoshiro_fill_##name(uint64_t *s, type *out, size_t n);                                                                 \
-    uint64_t oracle_philox_fill_##name(uint32_t *key, uint64_t *stream, uint64_t *counter, bool *waiting, uint64_t *pending, type *out,    \
-                                       size_t n);                                                                                          \
-    static void typed_xoshiro_##name(void *g, void *out, size_t n) { oracle_xoshiro_fill_##name(g, out, n); }                              \
-    static void typed_philox_##name(void *g, void *out, size_t n) {                                                                        \
-        philox *p = g;                                                                                                                     \
-        oracle_philox_fill_##name(p->key, &p->stream, &p->counter, &p->waiting, p->pending, out, n);                                       \
-    }
-TYPED(u64, uint64_t)
-TYPED(u32, uint32_t)
-TYPED(f32, float)
-TYPED(f64, double)
-TYPED(normal_f32, float)
-TYPED(normal_f64, double)
-uint64_t oracle_xoshiro_from_seed_block(uint64_t *s, uint64_t seed, uint64_t block);
-uint64_t oracle_xoshiro_jump_blocks(uint64_t *s, uint64_t n);
-void oracle_xoshiro_next_u64x8(uint64_t *s, uint64_t *words);
-void oracle_philox_new(uint32_t *key, uint64_t *stream, uint64_t *counter, bool *waiting, uint64_t *pending, uint64_t seed, uint64_t id);
-void oracle_philox_next_u64x8(uint32_t *key, uint64_t *stream, uint64_t *counter, bool *waiting, uint64_t *pending, uint64_t *words);
+typedef void rust_fill(void *rng, void *out, size_t n);
+typedef uint64_t xoshiro_fill(uint64_t *rows, void *out, size_t n);
+typedef uint64_t philox_fill(uint32_t *key, uint64_t *stream, uint64_t *counter, bool *waiting, uint64_t *pending, void *out, size_t n);
+typedef int64_t library_fill(uint8_t *form, size_t form_len, uint64_t kind, uint8_t *out, size_t out_len);
 
-enum { RUST, RUST_V3, TYPED_FILL, LIBRARY, SOURCES };
-enum { XOSHIRO, PHILOX, ENGINES };
-enum { KINDS = 6, MOST = 1000000 };
+typedef struct {
+    const char *name;
+    void *rust, *library, *typed[ENGINES]; /* shared objects */
+} level;
+static level levels[LEVELS];
+static int level_count;
 
-static const char *const engines[] = {"xoshiro", "philox"};
-static const char *const kinds[] = {"u64", "u32", "f32", "f64", "normal_f32", "normal_f64"};
-static const size_t widths[] = {8, 4, 4, 8, 4, 8};
-static const uint64_t SEED = 42;
-
-typedef void fill(void *rng, void *out, size_t n);
-static fill *const typed[ENGINES][KINDS] = {
-    {typed_xoshiro_u64, typed_xoshiro_u32, typed_xoshiro_f32, typed_xoshiro_f64, typed_xoshiro_normal_f32, typed_xoshiro_normal_f64},
-    {typed_philox_u64, typed_philox_u32, typed_philox_f32, typed_philox_f64, typed_philox_normal_f32, typed_philox_normal_f64}};
-
-static void *rust[2]; /* the shared objects, the second may be missing */
 static _Alignas(4096) uint8_t out[8 * MOST];
 static int differences;
 
@@ -65,10 +52,10 @@ double seconds(void) {
     return (double)t.tv_sec + 1e-9 * (double)t.tv_nsec;
 }
 
-static void *symbol(int build, const char *format, const char *a, const char *b) {
+static void *symbol(void *object, const char *format, const char *a, const char *b) {
     char name[64];
     snprintf(name, sizeof name, format, a, b);
-    void *f = dlsym(rust[build], name);
+    void *f = dlsym(object, name);
     if (!f) {
         fprintf(stderr, "bench: no %s\n", name);
         exit(2);
@@ -76,165 +63,203 @@ static void *symbol(int build, const char *format, const char *a, const char *b)
     return f;
 }
 
-/* A run of one source: `calls` fills of `n` places. */
+static void *object(const char *dir, const char *name) {
+    char path[4096];
+    snprintf(path, sizeof path, "%s/lib%s.so", dir, name);
+    void *o = dlopen(path, RTLD_NOW | RTLD_LOCAL);
+    if (!o) {
+        fprintf(stderr, "bench: %s\n", dlerror());
+        exit(2);
+    }
+    return o;
+}
+
+/* A generator of one of our libraries. */
+typedef union {
+    uint64_t rows[32];
+    philox counted;
+    uint8_t form[GP_XOSHIRO_FORM];
+} generator;
+
+/* One source at one level: its fill of a kind, and its generator. */
 typedef struct {
     int source, engine, kind;
     void *rng;
-    fill *call;
+    generator ours;
+    void *call;
     double best;
     uint64_t bytes; /* a digest of the last fill of the last run */
 } runner;
 
-static union {
-    uint64_t rows[32];
-    philox counted;
-    uint8_t form[GP_XOSHIRO_FORM];
-} ours[SOURCES];
-
-static void start(runner *r) {
+static void start(runner *r, const level *l) {
+    const char *engine = engines[r->engine], *kind = kinds[r->kind];
     uint64_t jumps;
-    void *g = r->rng = &ours[r->source];
-    if (r->source <= RUST_V3) {
-        void *(*new)(uint64_t, uint64_t) = symbol(r->source, "rust_%s_new", engines[r->engine], "");
+    if (r->source == RUST) {
+        void *(*new)(uint64_t, uint64_t) = symbol(l->rust, "rust_%s_new", engine, "");
         r->rng = new (SEED, 0);
-        r->call = symbol(r->source, "rust_%s_fill_%s", engines[r->engine], kinds[r->kind]);
-    } else if (r->source == TYPED_FILL) {
-        philox *p = g;
-        if (r->engine == XOSHIRO)
-            oracle_xoshiro_from_seed_block(g, SEED, 0);
-        else
-            oracle_philox_new(p->key, &p->stream, &p->counter, &p->waiting, p->pending, SEED, 0);
-        r->call = typed[r->engine][r->kind];
-    } else if (r->engine == XOSHIRO) {
-        gp_xoshiro_new(SEED, 0, g, GP_XOSHIRO_FORM, &jumps);
+        r->call = symbol(l->rust, "rust_%s_fill_%s", engine, kind);
+    } else if (r->source == TYPED) {
+        if (r->engine == XOSHIRO) {
+            uint64_t (*new)(uint64_t *, uint64_t, uint64_t) = symbol(l->typed[XOSHIRO], "oracle_xoshiro_from_seed_block", "", "");
+            new (r->ours.rows, SEED, 0);
+        } else {
+            r->ours.counted = (philox){.key = {(uint32_t)SEED}};
+        }
+        r->call = symbol(l->typed[r->engine], "oracle_%s_fill_%s", engine, kind);
     } else {
-        gp_philox_new(SEED, 0, g, GP_PHILOX_FORM);
+        if (r->engine == XOSHIRO) {
+            int64_t (*new)(uint64_t, uint64_t, uint8_t *, size_t, uint64_t *) = symbol(l->library, "gp_xoshiro_new", "", "");
+            new (SEED, 0, r->ours.form, GP_XOSHIRO_FORM, &jumps);
+        } else {
+            int64_t (*new)(uint64_t, uint64_t, uint8_t *, size_t) = symbol(l->library, "gp_philox_new", "", "");
+            new (SEED, 0, r->ours.form, GP_PHILOX_FORM);
+        }
+        r->call = symbol(l->library, "gp_%s_fill", engine, "");
     }
 }
 
-static void run(runner *r, size_t n, long calls) {
-    size_t width = widths[r->kind];
-    double began = seconds();
-    if (r->source != LIBRARY)
+static void fills(runner *r, size_t n, long calls) {
+    philox *p = &r->ours.counted;
+    if (r->source == RUST)
         for (long i = 0; i < calls; i++)
-            r->call(r->rng, out, n);
+            ((rust_fill *)r->call)(r->rng, out, n);
+    else if (r->source == LIBRARY)
+        for (long i = 0; i < calls; i++)
+            ((library_fill *)r->call)(r->ours.form, r->engine == XOSHIRO ? GP_XOSHIRO_FORM : GP_PHILOX_FORM, (uint64_t)r->kind + 1, out,
+                                      n * widths[r->kind]);
     else if (r->engine == XOSHIRO)
         for (long i = 0; i < calls; i++)
-            gp_xoshiro_fill(r->rng, GP_XOSHIRO_FORM, (uint64_t)r->kind + 1, out, n * width);
+            ((xoshiro_fill *)r->call)(r->ours.rows, out, n);
     else
         for (long i = 0; i < calls; i++)
-            gp_philox_fill(r->rng, GP_PHILOX_FORM, (uint64_t)r->kind + 1, out, n * width);
+            ((philox_fill *)r->call)(p->key, &p->stream, &p->counter, &p->waiting, p->pending, out, n);
+}
+
+/* Where its stack lies tells on a short fill, so each run of a source is at another place of it. */
+static void fills_at(runner *r, size_t n, long calls, size_t depth) {
+    volatile uint8_t below[64 + depth];
+    below[0] = 0;
+    fills(r, n, calls);
+    (void)below[0];
+}
+
+static void run(runner *r, size_t n, long calls, size_t depth) {
+    double began = seconds();
+    fills_at(r, n, calls, depth);
     double took = (seconds() - began) * 1e9 / (double)calls;
     if (r->best == 0 || took < r->best)
         r->best = took;
     r->bytes = 14695981039346656037u;
-    for (size_t i = 0; i < n * width; i += 4) {
+    for (size_t i = 0; i < n * widths[r->kind]; i += 4) {
         uint32_t part;
         memcpy(&part, out + i, 4);
         r->bytes = (r->bytes ^ part) * 1099511628211u;
     }
-    memset(out, 0, n * width);
+    memset(out, 0, n * widths[r->kind]);
 }
 
-static void row(int engine, int kind, size_t n, int runs) {
-    runner all[SOURCES];
-    long calls = n < 10000 ? (long)(200000 / n) : 1;
-    for (int s = 0; s < SOURCES; s++) {
-        all[s] = (runner){.source = s, .engine = engine, .kind = kind};
-        if (s != RUST_V3 || rust[RUST_V3])
-            start(&all[s]);
-    }
-    for (int i = 0; i < runs; i++)
-        for (int s = 0; s < SOURCES; s++)
-            if (all[s].rng) {
-                run(&all[s], n, calls);
-                differences += all[s].bytes != all[RUST].bytes;
+/* The most that the ratio of a fill to the Rust's may be, 0 where nothing is asked. */
+static double bar(int at, int engine, int kind, size_t n) {
+    if (n == 16)
+        return at == 0 ? 1.0 : 1.3;
+    if (n != MOST)
+        return 0;
+    return at == 0 ? 1.0 : engine == PHILOX || kind >= 4 ? 0.8 : 1.05;
+}
+
+/* The rows that are over a bar, printed after the table. */
+static char missed[8192];
+static size_t missed_end;
+
+static void hold(const char *what, int at, const runner *r, size_t n, double ratio) {
+    double most = bar(at, r->engine, r->kind, n);
+    if (most > 0 && ratio > most + 0.005 && missed_end < sizeof missed)
+        missed_end += (size_t)snprintf(missed + missed_end, sizeof missed - missed_end, "| %s | %s | %s | %zu | %s | %.2f | %.2f |\n",
+                                       levels[at].name, engines[r->engine], kinds[r->kind], n, what, most, ratio);
+}
+
+static void row(int engine, int kind, size_t n) {
+    static runner all[LEVELS][SOURCES];
+    long calls = n < 10000 ? (long)(40000 / n) : 1;
+    for (int l = 0; l < level_count; l++)
+        for (int s = 0; s < SOURCES; s++) {
+            all[l][s] = (runner){.source = s, .engine = engine, .kind = kind};
+            start(&all[l][s], &levels[l]);
+        }
+    for (int i = 0; i < RUNS; i++)
+        for (int l = 0; l < level_count; l++)
+            for (int s = 0; s < SOURCES; s++) {
+                run(&all[l][s], n, calls, (size_t)(i % 16) * 272);
+                differences += all[l][s].bytes != all[0][RUST].bytes;
             }
-    double places = (double)n, plain = all[RUST].best, v3 = all[RUST_V3].best, fast = all[TYPED_FILL].best, lib = all[LIBRARY].best;
-    printf("| %s | %s | %zu | %.2f | %.2f | %.2f | %.2f | %.2f | %.2f |", engines[engine], kinds[kind], n, plain / places, fast / places,
-           fast / plain, lib / places, lib / plain, lib / fast);
-    if (all[RUST_V3].rng)
-        printf(" %.2f | %.2f |\n", v3 / places, fast / v3);
-    else
-        printf(" | |\n");
+    printf("| %s | %s | %zu |", engines[engine], kinds[kind], n);
+    for (int l = 0; l < level_count; l++) {
+        double rust = all[l][RUST].best, fill = all[l][TYPED].best, lib = all[l][LIBRARY].best, places = (double)n;
+        printf(" %.2f | %.2f (%.2f) | %.2f (%.2f) |", rust / places, fill / places, fill / rust, lib / places, lib / rust);
+        hold("typed fill", l, &all[l][TYPED], n, fill / rust);
+        hold("C library", l, &all[l][LIBRARY], n, lib / rust);
+    }
+    puts("");
     fflush(stdout);
 }
 
-/* The best of `runs` runs in turn of two functions that make `calls` calls each and leave 256 bytes to compare. */
-typedef void task(long calls, uint64_t *result);
-static void pair(const char *what, task *theirs, task *mine, long calls, int runs) {
-    double best[2] = {0, 0};
-    for (int i = 0; i < runs; i++) {
-        uint64_t result[2][32] = {{0}};
-        for (int s = 0; s < 2; s++) {
-            double began = seconds();
-            (s ? mine : theirs)(calls, result[s]);
-            double took = (seconds() - began) * 1e9 / (double)calls;
-            if (i == 0 || took < best[s])
-                best[s] = took;
-        }
-        differences += memcmp(result[0], result[1], sizeof result[0]) != 0;
-    }
-    printf("| %s | %.1f | %.1f | %.2f |\n", what, best[0], best[1], best[1] / best[0]);
+/* What is timed beside the fills: calls of the Rust's and of ours that leave 256 bytes to compare. */
+typedef struct {
+    const level *level;
+    void *g;           /* the Rust's generator */
+    uint64_t rows[32]; /* ours */
+    philox counted;
+} pair_state;
+typedef void task(pair_state *s, long calls, uint64_t *result);
+
+static void their_xoshiro_draws(pair_state *s, long calls, uint64_t *result) {
+    void (*draw)(void *, uint64_t *) = symbol(s->level->rust, "rust_xoshiro_draw", "", "");
+    for (long i = 0; i < calls; i++)
+        draw(s->g, result);
 }
 
-static void their_xoshiro_draws(long calls, uint64_t *result) {
-    void *(*new)(uint64_t, uint64_t) = symbol(RUST, "rust_xoshiro_new", "", "");
-    void (*draw)(void *, uint64_t *) = symbol(RUST, "rust_xoshiro_draw", "", "");
-    static void *g;
-    g = g ? g : new (SEED, 0);
+static void my_xoshiro_draws(pair_state *s, long calls, uint64_t *result) {
+    void (*draw)(uint64_t *, uint64_t *) = symbol(s->level->typed[XOSHIRO], "oracle_xoshiro_next_u64x8", "", "");
+    for (long i = 0; i < calls; i++)
+        draw(s->rows, result);
+}
+
+static void their_philox_draws(pair_state *s, long calls, uint64_t *result) {
+    void *(*new)(uint64_t, uint64_t) = symbol(s->level->rust, "rust_philox_new", "", "");
+    void (*draw)(void *, uint64_t *) = symbol(s->level->rust, "rust_philox_draw", "", "");
+    void *g = new (SEED, 0);
     for (long i = 0; i < calls; i++)
         draw(g, result);
 }
 
-static void my_xoshiro_draws(long calls, uint64_t *result) {
-    static uint64_t rows[32];
-    if (!rows[0])
-        oracle_xoshiro_from_seed_block(rows, SEED, 0);
+static void my_philox_draws(pair_state *s, long calls, uint64_t *result) {
+    void (*draw)(uint32_t *, uint64_t *, uint64_t *, bool *, uint64_t *, uint64_t *) =
+        symbol(s->level->typed[PHILOX], "oracle_philox_next_u64x8", "", "");
+    philox p = {.key = {(uint32_t)SEED}};
     for (long i = 0; i < calls; i++)
-        oracle_xoshiro_next_u64x8(rows, result);
-}
-
-static void their_philox_draws(long calls, uint64_t *result) {
-    void *(*new)(uint64_t, uint64_t) = symbol(RUST, "rust_philox_new", "", "");
-    void (*draw)(void *, uint64_t *) = symbol(RUST, "rust_philox_draw", "", "");
-    static void *g;
-    g = g ? g : new (SEED, 0);
-    for (long i = 0; i < calls; i++)
-        draw(g, result);
-}
-
-static void my_philox_draws(long calls, uint64_t *result) {
-    static philox p = {.key = {42}};
-    for (long i = 0; i < calls; i++)
-        oracle_philox_next_u64x8(p.key, &p.stream, &p.counter, &p.waiting, p.pending, result);
+        draw(p.key, &p.stream, &p.counter, &p.waiting, p.pending, result);
 }
 
 /* A move by one block is 64 jumps. */
-static void their_jumps(long calls, uint64_t *result) {
-    void *(*new)(uint64_t, uint64_t) = symbol(RUST, "rust_xoshiro_new", "", "");
-    void (*move)(void *, uint64_t) = symbol(RUST, "rust_jump_blocks", "", "");
-    void (*state)(void *, uint64_t *) = symbol(RUST, "rust_xoshiro_state", "", "");
-    static void *g;
-    g = g ? g : new (SEED, 0);
+static void their_jumps(pair_state *s, long calls, uint64_t *result) {
+    void (*move)(void *, uint64_t) = symbol(s->level->rust, "rust_jump_blocks", "", "");
+    void (*state)(void *, uint64_t *) = symbol(s->level->rust, "rust_xoshiro_state", "", "");
     for (long i = 0; i < calls; i += 64)
-        move(g, 1);
-    state(g, result);
+        move(s->g, 1);
+    state(s->g, result);
 }
 
-static void my_jumps(long calls, uint64_t *result) {
-    static uint64_t rows[32];
-    if (!rows[0])
-        oracle_xoshiro_from_seed_block(rows, SEED, 0);
+static void my_jumps(pair_state *s, long calls, uint64_t *result) {
+    uint64_t (*move)(uint64_t *, uint64_t) = symbol(s->level->typed[XOSHIRO], "oracle_xoshiro_jump_blocks", "", "");
     for (long i = 0; i < calls; i += 64)
-        oracle_xoshiro_jump_blocks(rows, 1);
-    memcpy(result, rows, sizeof rows);
+        move(s->rows, 1);
+    memcpy(result, s->rows, sizeof s->rows);
 }
 
-static void their_blocks(long calls, uint64_t *result) {
-    void *(*new)(uint64_t, uint64_t) = symbol(RUST, "rust_xoshiro_new", "", "");
-    void (*drop)(void *) = symbol(RUST, "rust_xoshiro_drop", "", "");
-    void (*state)(void *, uint64_t *) = symbol(RUST, "rust_xoshiro_state", "", "");
+static void their_blocks(pair_state *s, long calls, uint64_t *result) {
+    void *(*new)(uint64_t, uint64_t) = symbol(s->level->rust, "rust_xoshiro_new", "", "");
+    void (*drop)(void *) = symbol(s->level->rust, "rust_xoshiro_drop", "", "");
+    void (*state)(void *, uint64_t *) = symbol(s->level->rust, "rust_xoshiro_state", "", "");
     for (long i = 0; i < calls; i++) {
         void *g = new (SEED, 1000);
         state(g, result);
@@ -242,25 +267,61 @@ static void their_blocks(long calls, uint64_t *result) {
     }
 }
 
-static void my_blocks(long calls, uint64_t *result) {
+static void my_blocks(pair_state *s, long calls, uint64_t *result) {
+    uint64_t (*new)(uint64_t *, uint64_t, uint64_t) = symbol(s->level->typed[XOSHIRO], "oracle_xoshiro_from_seed_block", "", "");
     for (long i = 0; i < calls; i++)
-        oracle_xoshiro_from_seed_block(result, SEED, 1000);
+        new (result, SEED, 1000);
 }
 
-/* How deep the stack of our fills goes: each kind and engine, typed and through the C library, on a stack of its own that was painted. */
+static void pair(const char *what, task *theirs, task *mine, long calls, int runs) {
+    static pair_state states[LEVELS];
+    double best[LEVELS][2];
+    for (int l = 0; l < level_count; l++) {
+        void *(*new)(uint64_t, uint64_t) = symbol(levels[l].rust, "rust_xoshiro_new", "", "");
+        uint64_t (*ours)(uint64_t *, uint64_t, uint64_t) = symbol(levels[l].typed[XOSHIRO], "oracle_xoshiro_from_seed_block", "", "");
+        states[l] = (pair_state){.level = &levels[l], .g = new (SEED, 0)};
+        ours(states[l].rows, SEED, 0);
+    }
+    for (int i = 0; i < runs; i++)
+        for (int l = 0; l < level_count; l++) {
+            uint64_t result[2][32] = {{0}};
+            for (int s = 0; s < 2; s++) {
+                double began = seconds();
+                (s ? mine : theirs)(&states[l], calls, result[s]);
+                double took = (seconds() - began) * 1e9 / (double)calls;
+                if (i == 0 || took < best[l][s])
+                    best[l][s] = took;
+            }
+            differences += memcmp(result[0], result[1], sizeof result[0]) != 0;
+        }
+    printf("| %s |", what);
+    for (int l = 0; l < level_count; l++)
+        printf(" %.1f | %.1f (%.2f) |", best[l][0], best[l][1], best[l][1] / best[l][0]);
+    puts("");
+    fflush(stdout);
+}
+
+/* How deep the stack of our fills goes: each kind, engine and length, typed and through the C library, on a stack of its own that was
+ * painted. */
+static runner painters[ENGINES][KINDS][SOURCES];
+
 static void every_fill(void) {
     for (int e = 0; e < ENGINES; e++)
         for (int k = 0; k < KINDS; k++)
-            for (int s = TYPED_FILL; s <= LIBRARY; s++) {
-                runner r = {.source = s, .engine = e, .kind = k};
-                start(&r);
-                run(&r, 1000, 1);
-            }
+            for (int s = TYPED; s <= LIBRARY; s++)
+                for (size_t n = 0; n < sizeof lengths / sizeof *lengths; n++)
+                    fills(&painters[e][k][s], lengths[n], 1);
 }
 
-static size_t stack_depth(void) {
+static size_t stack_depth(const level *l) {
     static ucontext_t here, there;
     static _Alignas(64) uint8_t stack[1 << 17];
+    for (int e = 0; e < ENGINES; e++)
+        for (int k = 0; k < KINDS; k++)
+            for (int s = TYPED; s <= LIBRARY; s++) {
+                painters[e][k][s] = (runner){.source = s, .engine = e, .kind = k};
+                start(&painters[e][k][s], l);
+            }
     memset(stack, 0xA5, sizeof stack);
     getcontext(&there);
     there.uc_stack.ss_sp = stack;
@@ -274,28 +335,44 @@ static size_t stack_depth(void) {
     return sizeof stack - untouched;
 }
 
+static void heading(const char *first, const char *columns, int wide) {
+    printf("%s", first);
+    for (int l = 0; l < level_count; l++)
+        printf(columns, levels[l].name);
+    printf("\n|");
+    for (int i = wide; i > 0; i--)
+        printf("---|");
+    puts("");
+}
+
 int main(int argc, char **argv) {
-    static const size_t lengths[] = {MOST, 1000, 100, 16};
-    for (int i = 0; i < 2 && i + 1 < argc; i++)
-        if (!(rust[i] = dlopen(argv[i + 1], RTLD_NOW | RTLD_LOCAL)))
-            fprintf(stderr, "bench: %s\n", dlerror());
-    if (!rust[RUST])
+    for (int i = 1; i < argc && level_count < LEVELS; i++) {
+        char *dir = strchr(argv[i], '=');
+        if (!dir)
+            return 2;
+        *dir++ = 0;
+        levels[level_count++] =
+            (level){argv[i], object(dir, "rust"), object(dir, "girderpeach"), {object(dir, "oracle_xoshiro"), object(dir, "oracle_philox")}};
+    }
+    if (!level_count)
         return 2;
-    puts("ns an element. Ratios: `fill` is our typed fill to the Rust's, `lib` the C library's fill to the Rust's, `lib/fill` the C "
-         "library's to");
-    puts("our typed fill, `fill/v3` our typed fill to the Rust built for x86-64-v3.\n");
-    puts("| engine | kind | places | Rust | our fill | fill | C library | lib | lib/fill | Rust, v3 | fill/v3 |");
-    puts("|---|---|---|---|---|---|---|---|---|---|---|");
+    puts("ns an element; in brackets the ratio to the Rust built for the same level. `fill` is our typed fill, `lib` the C library's fill.\n");
+    heading("| engine | kind | places |", " %s: Rust | fill | lib |", 3 + 3 * level_count);
     for (int e = 0; e < ENGINES; e++)
-        for (size_t l = 0; l < sizeof lengths / sizeof *lengths; l++)
+        for (size_t n = 0; n < sizeof lengths / sizeof *lengths; n++)
             for (int k = 0; k < KINDS; k++)
-                row(e, k, lengths[l], 60);
-    puts("\nns a call.\n\n| call | Rust | ours | ratio |\n|---|---|---|---|");
+                row(e, k, lengths[n]);
+    puts("\nns a call.\n");
+    heading("| call |", " %s: Rust | ours |", 1 + 2 * level_count);
     pair("a draw of eight words, xoshiro", their_xoshiro_draws, my_xoshiro_draws, 100000, 40);
     pair("a draw of eight words, Philox", their_philox_draws, my_philox_draws, 100000, 40);
     pair("`jump` (a 64th of a move by one block)", their_jumps, my_jumps, 6400, 40);
     pair("`from_seed_block(seed, 1000)`", their_blocks, my_blocks, 1, 15);
-    printf("\nThe deepest stack of any of our fills, with its caller here: %zu bytes.\n", stack_depth());
+    printf("\nThe deepest stack of any of our fills, with its caller here:");
+    for (int l = 0; l < level_count; l++)
+        printf(" %s %zu bytes%s", levels[l].name, stack_depth(&levels[l]), l + 1 < level_count ? "," : ".\n");
+    printf("\nRatios over what is asked: %s", missed_end ? "\n\n| level | engine | kind | places | what | asked | has |\n|---|---|---|---|---|---|---|\n" : "none\n");
+    fputs(missed, stdout);
     others(out, MOST);
     if (differences)
         printf("\nBYTES DIFFER in %d runs\n", differences);

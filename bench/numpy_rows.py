@@ -1,9 +1,9 @@
-"""Rows of the table for NumPy's generators: the best of ten fills of 1,000,000 places each."""
+"""Rows of the table for NumPy's generators: the best of ten fills of 200,000 places each."""
 import time
 
 import numpy
 
-N = 1_000_000
+N = 200_000
 
 
 def row(name, kind, dtype, fill):

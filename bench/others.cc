@@ -52,7 +52,7 @@ struct Blocks {
 #endif
 
 void others(void *out, size_t n) {
-    std::puts("\nOther generators, ns an element at 1,000,000 places. Their numbers are not the same, and some need not be of the same "
+    std::puts("\nOther generators, ns an element at 200,000 places. Their numbers are not the same, and some need not be of the same "
               "quality.\n");
     std::puts("| generator | kind | ns |\n|---|---|---|");
     const char *name = "C++ mt19937_64";

@@ -1,7 +1,7 @@
 -- The bytes of elements, one element after another: their number, what stands where, and the loop that stores them. For any element
 -- type and width in bytes. Assumes nothing.
 use mathlib.Core.Path.{_≡_, refl, sym, ap, _∙_}
-use mathlib.Core.List.{List, [], _∷_, _++_, append-nil, append-assoc}
+use mathlib.Core.List.{List, [], _∷_, _++_, map, append-nil, append-assoc}
 use Prim.Native.Nat.{ℕ, zero, suc, _+_, _*_, _/_, _%_, _^_, _<_, _≤_}
 use native.Mathlib.Nat.{zero-mul, suc-mul, mul-assoc, zero-add, not-suc-le-zero, le-of-suc-le-suc}
 use native.Mathlib.Numerals.{add-one}
@@ -37,6 +37,12 @@ le-join lo hi h =
     ∙ ap (λ (x : ℕ). lo / 256 % 256 ∷ lo / 256 / 256 % 256 ∷ x ∷ leBytes 4 ((lo / 256 / 256 / 256 + 256 * hi) / 256)) (d .1)
     ∙ ap (λ (x : ℕ). lo / 256 % 256 ∷ lo / 256 / 256 % 256 ∷ lo / 256 / 256 / 256 % 256 ∷ leBytes 4 x) (d .0 ∙ one) in
     ap (λ (x : ℕ). x ∷ leBytes 7 ((lo + 4294967296 * hi) / 256)) (a .1) ∙ ap (λ (l : List ℕ). lo % 256 ∷ l) tail
+
+-- the bytes of elements that are made of others
+pub flat-map : {A B : Type 0} (f : B → List ℕ) (g : A → B) (xs : List A) → flat f (map g xs) ≡ flat (λ x. f (g x)) xs
+unfolding flat
+flat-map f g [] = refl
+flat-map f g (x ∷ xs) = ap (λ (l : List ℕ). f (g x) ++ l) (flat-map f g xs)
 
 module _ {A : Type 0} (f : A → List ℕ) where
   pub flat-append : (xs ys : List A) → flat f (xs ++ ys) ≡ flat f xs ++ flat f ys

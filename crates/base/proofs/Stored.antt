@@ -3,12 +3,12 @@
 use mathlib.Core.Path.{_≡_, refl, sym, ap, _∙_}
 use mathlib.Core.List.{List, [], _∷_, _++_}
 use Prim.Native.Nat.{ℕ, zero, suc, _+_, _-_, _<_, _≤_, min}
-use native.Mathlib.Nat.{add-zero, not-suc-le-zero, le-of-suc-le-suc}
+use native.Mathlib.Nat.{add-zero, zero-add, not-suc-le-zero, le-of-suc-le-suc}
 use native.Mathlib.Decide.{decLe}
 use native.Mathlib.Numerals.{add-one}
 use native.Mathlib.Omega.{arith}
 use lib.ListN.{length, take, getD, set, length-set}
-use lib.Seq.{sets, length-sets, set-out, take-all, take-suc, length-take-le, getD-set-same, getD-set-other}
+use lib.Seq.{sets, length-sets, set-out, take-all, take-suc, length-take-le, ext-getD, getD-set-same, getD-set-other}
 use Rattle.base.specs.Stored.{stored}
 
 module _ {A : Type 0} where
@@ -68,6 +68,15 @@ module _ {A : Type 0} where
   pub stored-out : (l v : List A) (at : ℕ) → length l ≤ at → l ≡ stored l at v
   unfolding stored
   stored-out l v at h = sym (sets-out l at v h)
+
+  -- as many elements as there are, stored from the first place on, are the list
+  pub stored-whole : (l v : List A) → length l ≡ length v → stored l 0 v ≡ v
+  unfolding stored
+  stored-whole [] [] h = refl
+  stored-whole (x ∷ l) [] h = absurd (omega arith)
+  stored-whole l (a ∷ v) h =
+      let w : List A = a ∷ v in
+      ext-getD a (sets l 0 w) w (length-sets l 0 w ∙ h) (λ k b. rw zero-add at (sets-in w l 0 k a (omega (arith, length-sets l 0 w)) (omega (arith, length-sets l 0 w))))
 
   -- two runs of stores, one after the other
   pub stored-two : (l : List A) (at : ℕ) (xs ys : List A) {m out : List A} {at′ : ℕ} → m ≡ stored l at xs → at + length xs ≡ at′ → out ≡ stored m at′ ys → out ≡ stored l at (xs ++ ys)

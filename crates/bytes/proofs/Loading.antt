@@ -1,5 +1,5 @@
--- The loop that reads a word, its highest byte first. Assumes nothing.
-use mathlib.Core.Path.{_≡_, sym, ap, ap₂, _∙_}
+-- The loop that reads a word, its highest byte first; and eight bytes read at once. Assumes nothing.
+use mathlib.Core.Path.{_≡_, refl, sym, ap, ap₂, _∙_}
 use mathlib.Core.List.{List}
 use Prim.Native.Nat.{ℕ, suc, _+_, _-_, _*_, _^_, _<_, _≤_, min}
 use native.Mathlib.Decide.{decLe}
@@ -51,3 +51,22 @@ module _ {s : List ℕ} {at n : ℕ} where
         | no q ↦ (let e : n ≡ 8 = omega (arith, L .room) in ap (λ (k : ℕ). take k (drop at s)) e)
       ] in
       L .is ∙ ap₂ (λ (j k : ℕ). leNat (take j (drop k s))) a b ∙ ap leNat whole
+
+-- ---- eight bytes at once
+byte-first : (s : List ℕ) (at next k : ℕ) → at < length s → suc at ≡ next → leNat (take (suc k) (drop at s)) ≡ getD s at 0 + 256 * leNat (take k (drop next s))
+byte-first s at next k h e = rw (drop-cons s at 0 h, e) refl
+
+pub load-eight : (s : List ℕ) (at : ℕ) → at + 8 ≤ length s
+    → leNat (take 8 (drop at s))
+    ≡ getD s at 0 + 256 * (getD s (at + 1) 0 + 256 * (getD s (at + 2) 0 + 256 * (getD s (at + 3) 0
+    + 256 * (getD s (at + 4) 0 + 256 * (getD s (at + 5) 0 + 256 * (getD s (at + 6) 0 + 256 * getD s (at + 7) 0))))))
+load-eight s at h =
+    let b0 = byte-first s at (at + 1) 7 (omega arith) (omega arith) in
+    let b1 = byte-first s (at + 1) (at + 2) 6 (omega arith) (omega arith) in
+    let b2 = byte-first s (at + 2) (at + 3) 5 (omega arith) (omega arith) in
+    let b3 = byte-first s (at + 3) (at + 4) 4 (omega arith) (omega arith) in
+    let b4 = byte-first s (at + 4) (at + 5) 3 (omega arith) (omega arith) in
+    let b5 = byte-first s (at + 5) (at + 6) 2 (omega arith) (omega arith) in
+    let b6 = byte-first s (at + 6) (at + 7) 1 (omega arith) (omega arith) in
+    let b7 = byte-first s (at + 7) (at + 8) 0 (omega arith) (omega arith) in
+    omega arith

@@ -1,8 +1,8 @@
 -- How many groups n places begin: n / w rounded up. Assumes nothing.
 use mathlib.Core.Path.{_≡_, ap, _∙_}
 use Prim.Native.Nat.{ℕ, zero, suc, _+_, _-_, _*_, _/_, _%_, _<_, _≤_}
-use native.Mathlib.Nat.{div-zero, div-eq-of-lt, div-add-mod', div-eq-of-lt-le, lt-div-mul-add, lt-of-mul-lt-mul-right, mod-lt, suc-mul}
-use native.Mathlib.Decide.{ℕ-discrete}
+use native.Mathlib.Nat.{div-zero, div-eq-of-lt, div-add-mod', div-eq-of-lt-le, lt-div-mul-add, mod-lt, mul-le-mul-right, suc-mul, mul-suc}
+use native.Mathlib.Decide.{decLt, ℕ-discrete}
 use native.Mathlib.Numerals.{add-one}
 use native.Mathlib.Omega.{arith}
 use Rattle.fills.specs.Fill.{roundUp}
@@ -33,9 +33,18 @@ round-none n (suc w) e = div-eq-of-lt (omega arith)
 pub round-nothing : (n w : ℕ) → w ≡ 0 → roundUp n w ≡ 0
 round-nothing n w e = ap (λ (x : ℕ). (n + (x - 1)) / x) e ∙ div-zero (n + (0 - 1))
 
--- these groups have a place for each, and one that a place begins is among them
+-- these groups have a place for each
 pub round-covers : (n w : ℕ) → 0 < w → n ≤ roundUp n w * w
 round-covers n w pos = omega (arith, lt-div-mul-add {a = n + (w - 1)} pos)
 
-pub round-begun : (n w k : ℕ) → 0 < w → k * w < n → k < roundUp n w
-round-begun n w k pos h = lt-of-mul-lt-mul-right w (omega (arith, round-covers n w pos))
+-- each of them begins at a place, so that they are no more than the places
+pub round-within : (n w k : ℕ) → 0 < w → k < roundUp n w → k * w < n
+round-within n w k pos h = omega (arith, mul-le-mul-right w h, suc-mul k w, div-add-mod' (n + (w - 1)) w)
+
+pub round-most : (n w : ℕ) → roundUp n w ≤ n
+round-most n zero = omega (arith, div-zero (n + (0 - 1)))
+round-most n (suc w) =
+    elim (decLt n (roundUp n (suc w))) [
+      | yes h ↦ absurd (omega (arith, round-within n (suc w) n (omega arith) h, mul-suc n w))
+      | no h ↦ omega arith
+    ]

@@ -18,6 +18,13 @@ pub fn room(len: usize, at: usize, most: usize) -> usize
     most
 }
 
+// The groups of `places` places that `len` places begin.
+pub fn groups_in(len: usize, places: usize) -> usize
+    ensures { λ r. ⌜ r ≡ roundUp len places ⌝ }
+{
+    groups_of(len, 0, places, len)
+}
+
 // The groups of `places` places that the places from `at` on of a slice of length `len` begin, at most `most`.
 pub fn groups_of(len: usize, at: usize, places: usize, most: usize) -> usize
     ensures { λ r. ⌜ r ≡ min (roundUp (len - at) places) most ⌝ }

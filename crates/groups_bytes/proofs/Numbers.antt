@@ -5,14 +5,15 @@ use Prim.Native.Nat.{ℕ, zero, suc, _+_, _-_, _*_, _/_, _%_, _<_, _≤_, min}
 use native.Mathlib.Decide.{ℕ-discrete}
 use native.Mathlib.Omega.{arith}
 use borrow.Author.Tests.{le-leb, lt-leb, eq-eqb, ne-eqb}
-use lib.ListN.{length, getD}
+use lib.ListN.{length}
+use Rattle.base.specs.Stored.{stored}
 use Rattle.fills.specs.Buffer.{bytesKind, groupsAhead, drawsAhead, storedGroups}
 use Rattle.fills.specs.Fill.{roundUp}
 use Rattle.fills.specs.FillBytes.{refusalOf}
-use Rattle.fills.specs.Kinds.{AnyKind, kinds, kindAt, of, u64s}
+use Rattle.fills.specs.Kinds.{AnyKind, kindAt, of, u64s}
 use Rattle.kinds.proofs.Numbers.{past-6}
 
-is-other : (k : ℕ) → (k ≡ 2 → ⊥) → (k ≡ 3 → ⊥) → (k ≡ 4 → ⊥) → (k ≡ 5 → ⊥) → (k ≡ 6 → ⊥) → kindAt k ≡ of u64s
+pub is-other : (k : ℕ) → (k ≡ 2 → ⊥) → (k ≡ 3 → ⊥) → (k ≡ 4 → ⊥) → (k ≡ 5 → ⊥) → (k ≡ 6 → ⊥) → kindAt k ≡ of u64s
 unfolding kindAt
 is-other zero a b c d e = refl
 is-other (suc zero) a b c d e = refl
@@ -24,11 +25,11 @@ is-other (suc (suc (suc (suc (suc (suc zero)))))) a b c d e = absurd (e refl)
 is-other (suc (suc (suc (suc (suc (suc (suc k))))))) a b c d e = past-6 k
 
 -- a kind other than 6: a group is 64 bytes and takes one draw
-record Single (K : AnyKind) : Type 0 where
-  bytes : bytesKind (K .kind) .places ≡ 64
-  draws : K .kind .draws ≡ 1
+pub record Single (K : AnyKind) : Type 0 where
+  pub bytes : bytesKind (K .kind) .places ≡ 64
+  pub draws : K .kind .draws ≡ 1
 
-single : (k : ℕ) → (k ≡ 6 → ⊥) → Single (kindAt k)
+pub single : (k : ℕ) → (k ≡ 6 → ⊥) → Single (kindAt k)
 unfolding kindAt
 single zero h = record { bytes = refl; draws = refl }
 single (suc zero) h = record { bytes = refl; draws = refl }
@@ -56,6 +57,17 @@ module _ (k : ℕ) (b l : List ℕ) (at : ℕ) {out : List ℕ} where
 
   pub mapped-other : (k ≡ 2 → ⊥) → (k ≡ 3 → ⊥) → (k ≡ 4 → ⊥) → (k ≡ 5 → ⊥) → (k ≡ 6 → ⊥) → out ≡ mapped (of u64s) b l at → out ≡ mapped (kindAt k) b l at
   mapped-other p q r s t eo = eo ∙ ap (λ (K : AnyKind). mapped K b l at) (sym (is-other k p q r s t))
+
+-- the bytes that a group of the draw w leaves in l from at on
+abbrev grouped : AnyKind → List ℕ → List ℕ → ℕ → List ℕ
+grouped K w l at = stored l at (bytesKind (K .kind) .group (λ _. w))
+
+module _ (k : ℕ) (w l : List ℕ) (at : ℕ) {out : List ℕ} where
+  pub grouped-by : (n : ℕ) → k ≡ n → out ≡ grouped (kindAt n) w l at → out ≡ grouped (kindAt k) w l at
+  grouped-by n e eo = eo ∙ ap (λ (m : ℕ). grouped (kindAt m) w l at) (sym e)
+
+  pub grouped-other : (k ≡ 2 → ⊥) → (k ≡ 3 → ⊥) → (k ≡ 4 → ⊥) → (k ≡ 5 → ⊥) → (k ≡ 6 → ⊥) → out ≡ grouped (of u64s) w l at → out ≡ grouped (kindAt k) w l at
+  grouped-other p q r s t eo = eo ∙ ap (λ (K : AnyKind). grouped K w l at) (sym (is-other k p q r s t))
 
 pub double-draws : (k : ℕ) → k ≡ 6 → (n : ℕ) → drawsAhead (bytesKind (kindAt k .kind)) n ≡ 2 * min (roundUp n 128) 8
 unfolding kindAt

@@ -1,11 +1,11 @@
-// Groups of unit f64 elements, made of the words of draws and stored in a slice: kind 4.
+// Groups of unit f64 elements, made of the words of draws and stored in a slice, and their bytes: kind 4.
 ghost use mathlib.Core.List.{map};
 ghost use mathlib.Core.Path.{_≡_};
 ghost use Prim.Native.Nat.{_+_, _-_, min};
 ghost use lib.ListN.{length};
 ghost use Rattle.base.specs.Stored.{stored};
-ghost use lib.Ieee.{binary64};
-ghost use Rattle.fills.specs.Buffer.{groupsAhead, storedGroups};
+ghost use lib.Ieee.{binary64, toBits};
+ghost use Rattle.fills.specs.Buffer.{bytesKind, groupsAhead, storedGroups};
 ghost use Rattle.fills.specs.Kinds.{f64s};
 ghost use Rattle.units.specs.Unit.{unit};
 
@@ -43,12 +43,47 @@ pub fn units_f64(w: [u64; 8]) -> [f64; 8]
     out
 }
 
+// One group from the words of its draw in the places from `at` on, as far as `out` has them.
+pub fn put_group(out: &mut [f64], at: usize, w: [u64; 8])
+    ensures { λ _. ⌜ now (out .exit) ≡ stored (now (out .entry)) at (f64s .group (λ _. w)) ⌝ }
+{
+    put_f64(out, at, units_f64(w));
+}
+
 // The groups of the buffer `b` in the places from `at` on, as far as both go.
 pub fn map_f64(out: &mut [f64], at: usize, b: &[u64; 128])
     ensures { λ _. ⌜ now (out .exit) ≡ storedGroups f64s (now (b .entry)) (now (out .entry)) at (groupsAhead f64s (length (now (out .entry)) - at)) ⌝ }
 {
     let q = groups::groups_of(out.len(), at, 8, 16);
     for j in 0..q {
-        put_f64(out, at + j * 8, units_f64(groups::draw_of(b, j)));
+        put_group(out, at + j * 8, groups::draw_of(b, j));
+    }
+}
+
+// The patterns of eight floats.
+pub fn bits_f64(v: [f64; 8]) -> [u64; 8]
+    ensures { λ r. ⌜ r ≡ map (toBits binary64) v ⌝ }
+{
+    let mut out = [0u64; 8];
+    for i in 0..8 {
+        out[i] = floats::to_bits_f64(v[i]);
+    }
+    out
+}
+
+// The bytes of one group from the words of its draw in the places from `at` on, as far as `out` has them.
+pub fn put_bytes(out: &mut [u8], at: usize, w: [u64; 8])
+    ensures { λ _. ⌜ now (out .exit) ≡ stored (now (out .entry)) at (bytesKind f64s .group (λ _. w)) ⌝ }
+{
+    bytes::put_words(out, at, bits_f64(units_f64(w)));
+}
+
+// The bytes of the groups of the buffer `b` in the places from `at` on, as far as both go.
+pub fn map_bytes(out: &mut [u8], at: usize, b: &[u64; 128])
+    ensures { λ _. ⌜ now (out .exit) ≡ storedGroups (bytesKind f64s) (now (b .entry)) (now (out .entry)) at (groupsAhead (bytesKind f64s) (length (now (out .entry)) - at)) ⌝ }
+{
+    let q = groups::groups_of(out.len(), at, 64, 16);
+    for j in 0..q {
+        put_bytes(out, at + j * 64, groups::draw_of(b, j));
     }
 }

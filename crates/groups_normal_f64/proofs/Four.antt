@@ -1,23 +1,34 @@
--- Four groups at a time: the loops that lay 32 lanes out, and the groups that their halves hold. Assumes nothing.
-use mathlib.Core.List.{List, map}
-use mathlib.Core.Path.{_≡_, refl, sym, ap, _∙_}
+-- The bytes of a group, and four groups at a time: the loops that lay 32 lanes out, and the groups that their halves hold. Assumes nothing.
+use mathlib.Core.List.{List, map, _++_}
+use mathlib.Core.Path.{_≡_, sym, ap, _∙_}
 use Prim.Native.Nat.{ℕ, _+_, _*_, _/_, _%_, _≤_, _<_}
 use native.Mathlib.Omega.{arith}
 use lib.ListN.{length, getD, set, drop}
 use lib.Seq.{getD-drop}
-use lib.Ieee.{Float, binary64, nan}
+use lib.Ieee.{Float, binary64, nan, toBits}
+use Rattle.base.specs.Bytes.{leBytes, flat}
 use Rattle.base.specs.Stored.{stored}
 use Rattle.base.specs.Table.{table}
 use Rattle.base.specs.Zip.{zipWith}
-use Rattle.base.proofs.Stored.{stored-eights}
-use Rattle.base.proofs.Table.{Tabled, tabled-none, tabled-more, tabled-end, length-table, getD-table, table-same}
+use Rattle.base.proofs.Bytes.{length-leBytes, flat-map, flat-append, flat-length}
+use Rattle.base.proofs.Stored.{stored-two}
+use Rattle.base.proofs.Table.{Tabled, tabled-none, tabled-more, tabled-end, getD-table, table-same}
 use Rattle.base.proofs.Zip.{zip-tables, map-table}
 use Rattle.fills.specs.Buffer.{drawOf}
+use Rattle.fills.specs.FillBytes.{bytesOf}
 use Rattle.fills.specs.Kinds.{normalF64s}
-use Rattle.fills.proofs.Buffered.{Grouping, group-more}
 use Rattle.math.specs.BoxMuller.{cosHalf, sinHalf}
 use Rattle.units.specs.Unit.{unit, oneMinusUnit}
 use Rattle.groups_normal_f64.specs.Four.{rows}
+
+-- ---- the patterns of the halves of a group, stored as bytes
+pub halves-bytes : (l : List ℕ) (at : ℕ) (c s : List Float) {x y m out : List ℕ} → length c ≡ 8 → x ≡ map (toBits binary64) c → y ≡ map (toBits binary64) s
+    → m ≡ stored l at (flat (leBytes 8) x) → out ≡ stored m (at + 64) (flat (leBytes 8) y) → out ≡ stored l at (flat (bytesOf normalF64s) (c ++ s))
+halves-bytes l at c s {x} {y} {m} h ex ey em eo =
+    let f = bytesOf normalF64s in
+    let bytes : (z : List Float) → flat (leBytes 8) (map (toBits binary64) z) ≡ flat f z = flat-map (leBytes 8) (toBits binary64) in
+    stored-two l at (flat f c) (flat f s) (em ∙ ap (stored l at) (ap (flat (leBytes 8)) ex ∙ bytes c)) (omega (arith, flat-length f 8 (λ a. length-leBytes 8 (toBits binary64 a)) c))
+    (eo ∙ ap (stored m (at + 64)) (ap (flat (leBytes 8)) ey ∙ bytes s)) ∙ ap (stored l at) (sym (flat-append f c s))
 
 -- ---- j rows of eight are made, and l lanes of the next
 pub record Rowing (f : ℕ → Float) (b : List ℕ) (n : ℕ) (x : List Float) (j l : ℕ) : Type 0 where
@@ -64,10 +75,8 @@ module _ (b : List ℕ) (g j : ℕ) (h : j < 4) {u1 u2 : List Float} (p : u1 ≡
       ∙ (λ i. half (lane (oneMinusUnit binary64) (16 * g) ((2 * j + 0) * 8 + k) k (omega arith) i) (lane (unit binary64) (16 * g + 8) ((2 * j + 1) * 8 + k) k (omega arith) i)))
       ∙ sym ((λ i. zipWith half (drawn (oneMinusUnit binary64) (2 * j + 0) i) (drawn (unit binary64) (2 * j + 1) i)) ∙ zip-tables half 8 _ _)
 
-  -- a turn of the loop that stores the four: the cosine halves in z and the sine halves in y
-  pub four-more : {l out m out′ z y v w : List Float} {at : ℕ} → Grouping normalF64s (drop (2 * g * 8) b) l at 4 out j → z ≡ zipWith (cosHalf binary64) u1 u2 → y ≡ zipWith (sinHalf binary64) u1 u2
-      → v ≡ table 8 (λ k. getD z (j * 8 + k) nan) → w ≡ table 8 (λ k. getD y (j * 8 + k) nan) → m ≡ stored out (at + j * 16) v → out′ ≡ stored m (at + j * 16 + 8) w
-      → Grouping normalF64s (drop (2 * g * 8) b) l at 4 out′ (j + 1)
+  -- group j, from its lanes of the cosine halves z and the sine halves y
+  pub four-group : {z y v w : List Float} → z ≡ zipWith (cosHalf binary64) u1 u2 → y ≡ zipWith (sinHalf binary64) u1 u2 → v ≡ table 8 (λ k. getD z (j * 8 + k) nan)
+      → w ≡ table 8 (λ k. getD y (j * 8 + k) nan) → v ++ w ≡ normalF64s .group (λ m. drawOf (drop (2 * g * 8) b) (2 * j + m))
   unfolding left
-  four-more G ez ey ev ew em eo =
-      group-more G h (stored-eights _ _ (ap length ev ∙ length-table 8 _) em eo (eight (cosHalf binary64) ez ev) (eight (sinHalf binary64) ey ew)) refl
+  four-group ez ey ev ew = λ i. eight (cosHalf binary64) ez ev i ++ eight (sinHalf binary64) ey ew i

@@ -1,2 +1,2 @@
--- Four groups at a time.
+-- The bytes of a group, and four groups at a time.
 pub mod Four

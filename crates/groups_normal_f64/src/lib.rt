@@ -1,12 +1,14 @@
-// Groups of normal f64 elements, made of the words of draws and stored in a slice: kind 6.
-ghost use mathlib.Core.List.{map};
+// Groups of normal f64 elements, made of the words of draws and stored in a slice, and their bytes: kind 6.
+ghost use mathlib.Core.List.{map, _++_};
 ghost use mathlib.Core.Path.{_≡_};
 ghost use Prim.Native.Nat.{_+_, _-_, _*_, _<_, _≤_};
 ghost use lib.ListN.{length, getD, drop};
 ghost use lib.Ieee.{binary64, nan};
+ghost use Rattle.base.specs.Bytes.{flat};
 ghost use Rattle.base.specs.Stored.{stored};
 ghost use Rattle.base.specs.Table.{table};
-ghost use Rattle.fills.specs.Buffer.{groupsAhead, storedGroups};
+ghost use Rattle.fills.specs.Buffer.{bytesKind, groupsAhead, storedGroups};
+ghost use Rattle.fills.specs.FillBytes.{bytesOf};
 ghost use Rattle.fills.specs.Kinds.{normalsOf, normalF64s};
 ghost use Rattle.math_box_muller_f64.specs.Lanes.{lanesOf};
 ghost use Rattle.units.specs.Unit.{unit, oneMinusUnit};
@@ -24,7 +26,7 @@ fn one_minus_units_f64(w: [u64; 8]) -> [f64; 8]
 }
 
 // Box-Muller of the words of two draws: u1 from the first, u2 from the second.
-pub fn normals_f64(a: [u64; 8], b: [u64; 8]) -> math_sincos_turns_f64::CosSin
+fn normals_f64(a: [u64; 8], b: [u64; 8]) -> math_sincos_turns_f64::CosSin
     ensures { λ r. ⌜ r ≡ lanesOf (map (oneMinusUnit binary64) a) (map (unit binary64) b) ⌝ }
 {
     let u1 = one_minus_units_f64(a);
@@ -42,6 +44,37 @@ fn write_normal_f64(out: &mut [f64], at: usize, a: [u64; 8], b: [u64; 8])
     let s = z.sin;
     groups_f64::put_f64(out, at, c);
     groups_f64::put_f64(out, at + 8, s);
+}
+
+// One group in the places from `at` on, as far as `out` has them.
+pub fn put_group(out: &mut [f64], at: usize, a: [u64; 8], b: [u64; 8])
+    ensures { λ _. ⌜ now (out .exit) ≡ stored (now (out .entry)) at (normalsOf binary64 a b) ⌝ }
+{
+    if at < out.len() {
+        write_normal_f64(out, at, a, b);
+    }
+}
+
+// The bytes of the two halves of a group.
+fn bytes_of_halves(out: &mut [u8], at: usize, c: [f64; 8], s: [f64; 8])
+    requires { ⌜ at < length (now out) ⌝ }
+    ensures { λ _. ⌜ now (out .exit) ≡ stored (now (out .entry)) at (flat (bytesOf normalF64s) (c ++ s)) ⌝ }
+{
+    bytes::put_words(out, at, groups_f64::bits_f64(c));
+    bytes::put_words(out, at + 64, groups_f64::bits_f64(s));
+}
+
+// The bytes of one group in the places from `at` on, as far as `out` has them.
+pub fn put_bytes(out: &mut [u8], at: usize, a: [u64; 8], b: [u64; 8])
+    ensures { λ _. ⌜ now (out .exit) ≡ stored (now (out .entry)) at (flat (bytesOf normalF64s) (normalsOf binary64 a b)) ⌝ }
+{
+    if out.len() <= at {
+        return;
+    }
+    let z = normals_f64(a, b);
+    let c = z.cos;
+    let s = z.sin;
+    bytes_of_halves(out, at, c, s);
 }
 
 // 1 less the units of the words of the first draws of four groups, from group `g` on.
@@ -112,6 +145,41 @@ pub fn map_normal_f64(out: &mut [f64], at: usize, b: &[u64; 128])
         let first = groups::draw_of(b, 2 * j);
         let second = groups::draw_of(b, 2 * j + 1);
         write_normal_f64(out, at + j * 16, first, second);
+        j += 1;
+    }
+}
+
+// The bytes of four groups from group `g` of the buffer on.
+fn bytes_of_four(out: &mut [u8], at: usize, b: &[u64; 128], g: usize)
+    requires { ⌜ (g ≤ 4) × (at + 384 < length (now out)) ⌝ }
+    ensures { λ _. ⌜ now (out .exit) ≡ storedGroups (bytesKind normalF64s) (drop (2 * g * 8) (now (b .entry))) (now (out .entry)) at 4 ⌝ }
+{
+    let mut u1 = [0.0f64; 32];
+    let mut u2 = [0.0f64; 32];
+    let mut c = [0.0f64; 32];
+    let mut s = [0.0f64; 32];
+    four_u1(b, g, &mut u1);
+    four_u2(b, g, &mut u2);
+    math_box_muller_f64x32::lanes(&u1, &u2, &mut c, &mut s);
+    for j in 0..4 {
+        bytes_of_halves(out, at + j * 128, eight_of(&c, j), eight_of(&s, j));
+    }
+}
+
+// The bytes of the groups of the buffer `b` in the places from `at` on, as far as both go.
+pub fn map_bytes(out: &mut [u8], at: usize, b: &[u64; 128])
+    ensures { λ _. ⌜ now (out .exit) ≡ storedGroups (bytesKind normalF64s) (now (b .entry)) (now (out .entry)) at (groupsAhead (bytesKind normalF64s) (length (now (out .entry)) - at)) ⌝ }
+{
+    let q = groups::groups_of(out.len(), at, 128, 8);
+    let mut j = 0;
+    while 4 <= q - j {
+        bytes_of_four(out, at + j * 128, b, j);
+        j += 4;
+    }
+    while j < q {
+        let first = groups::draw_of(b, 2 * j);
+        let second = groups::draw_of(b, 2 * j + 1);
+        put_bytes(out, at + j * 128, first, second);
         j += 1;
     }
 }

@@ -9,12 +9,13 @@ use Rattle.base.specs.Iterate.{iterate}
 use Rattle.base.specs.Stored.{stored}
 use Rattle.base.proofs.Stored.{length-stored}
 use Rattle.base.proofs.Table.{length-table, table-same}
-use Rattle.fills.specs.Buffer.{drawnWords, DrawnAt}
+use Rattle.fills.specs.Buffer.{drawOf, drawnWords, DrawnAt}
 use Rattle.philox.specs.Philox.{block}
 use Rattle.philox_x8.specs.Machine.{blockAt, lowerAt, upperAt, sought, holding, past, wordsOf, nextOf, drawn}
 use Rattle.philox_x8.specs.declared.Philox4x32X8.{Philox4x32X8}
 use Rattle.philox_x8.specs.declared.Draw.{Draw}
 use Rattle.fills.proofs.Ahead.{none-drawn, drawn-more}
+use Rattle.fills.proofs.Held.{held-at-first}
 use Rattle.philox_x8.proofs.Machine.{words-waiting, next-waiting, words-fresh, next-fresh}
 use Rattle.philox_x8.proofs.Theorems.{eight-words}
 use Rattle.philox_draws.specs.Draws.{lowerOf, upperOf, atBlock, drawsAtOnce}
@@ -127,6 +128,19 @@ module _ (g : Philox4x32X8) (e : g .waiting ≡ false) where
   unfolding iterate
   same-later zero = same-words
   same-later (suc k) = ap wordsOf (same-next k)
+
+  -- one draw made with the one after it, the words of both in a list of 16
+  pub both-drawn : {old both lo hi : List ℕ} {d n : ℕ} → length old ≡ 16 → DrawnAt wordsOf nextOf H 0 2 old both d (atBlock (g .key) (g .stream) n)
+      → lo ≡ drawOf both 0 → hi ≡ drawOf both 1
+      → _≡_ {A = Draw} (record { words = lo; rng = record { key = g .key; stream = g .stream; counter = n; waiting = true; pending = hi } }) (drawn g)
+  unfolding drawn holding iterate upperAt
+  both-drawn {n = n} long D el eh =
+      let B = held-at-first eight-words D refl refl (omega arith) in
+      let lo = el ∙ B .held 0 (omega arith) ∙ sym same-words in
+      let hi = eh ∙ B .held 1 (omega arith) ∙ second-words (g .key) (g .stream) (g .counter) in
+      let en : n ≡ past (g .counter) = ap (λ (x : Philox4x32X8). x .counter) (D .state ∙ second-next (g .key) (g .stream) (g .counter)) in
+      let made : _≡_ {A = Philox4x32X8} (record { key = g .key; stream = g .stream; counter = n; waiting = true; pending = _ }) (nextOf g) = (λ i. record { key = g .key; stream = g .stream; counter = en i; waiting = true; pending = hi i }) ∙ sym (next-fresh g e) in
+      λ i. record { words = lo i; rng = made i }
 
   same-drawn : (m : ℕ) → drawnWords wordsOf nextOf m g ≡ drawnWords wordsOf nextOf m H
   unfolding drawnWords

@@ -1,10 +1,11 @@
 // The byte fills of Philox4x32-10: what a host asks for by a kind's number.
 use philox_words::Fill;
 use philox_x8::Philox4x32X8;
+ghost use mathlib.Core.Path.{_≡_};
 ghost use Rattle.fills.specs.Buffer.{bytesKind};
 ghost use Rattle.fills.specs.Fill.{Filled};
 ghost use Rattle.fills.specs.FillBytes.{FilledBytes};
-ghost use Rattle.fills.specs.Kinds.{kindAt};
+ghost use Rattle.fills.specs.Kinds.{normalF64s, kindAt};
 ghost use Rattle.philox_x8.specs.Machine.{wordsOf, nextOf};
 
 // The number of a byte fill's refusal, or 0; its draws, and the generator after them.
@@ -14,8 +15,48 @@ pub struct ByteFill {
     pub rng: Philox4x32X8,
 }
 
-// The bytes of a kind.
-fn fill_kind(g: Philox4x32X8, kind: u64, out: &mut [u8]) -> Fill
+// The bytes of a kind whose groups take one draw, draw by draw.
+fn fill_draws(g: Philox4x32X8, kind: u64, out: &mut [u8]) -> Fill
+    requires { ⌜ (kind ≡ 6 → ⊥) ⌝ }
+    ensures { λ r. ⌜ Filled wordsOf nextOf (bytesKind (kindAt kind .kind)) g (now (out .entry)) (now (out .exit)) (r .draws) (r .rng) ⌝ }
+{
+    let m = groups::groups_in(out.len(), 64);
+    let mut rng = g;
+    for j in 0..m {
+        let d = philox_draws::draw(rng);
+        let w = d.words;
+        groups_bytes::put_group(kind, out, j * 64, w);
+        rng = d.rng;
+    }
+    Fill {
+        rng,
+        draws: m as u64,
+    }
+}
+
+// Kind 6, draw by draw.
+fn fill_normal_f64(g: Philox4x32X8, out: &mut [u8]) -> Fill
+    ensures { λ r. ⌜ Filled wordsOf nextOf (bytesKind normalF64s) g (now (out .entry)) (now (out .exit)) (r .draws) (r .rng) ⌝ }
+{
+    let m = groups::groups_in(out.len(), 128);
+    let mut rng = g;
+    for j in 0..m {
+        let d = philox_draws::draw(rng);
+        let a = d.words;
+        let mid = d.rng;
+        let e = philox_draws::draw(mid);
+        let b = e.words;
+        groups_normal_f64::put_bytes(out, j * 128, a, b);
+        rng = e.rng;
+    }
+    Fill {
+        rng,
+        draws: 2 * m as u64,
+    }
+}
+
+// The bytes of a kind, by way of a buffer of draws, many of which are made at once.
+fn fill_ahead(g: Philox4x32X8, kind: u64, out: &mut [u8]) -> Fill
     ensures { λ r. ⌜ Filled wordsOf nextOf (bytesKind (kindAt kind .kind)) g (now (out .entry)) (now (out .exit)) (r .draws) (r .rng) ⌝ }
 {
     let mut rng = g;
@@ -30,7 +71,20 @@ fn fill_kind(g: Philox4x32X8, kind: u64, out: &mut [u8]) -> Fill
         draws += f.draws;
         at += m * 64;
     }
-    Fill { draws, rng }
+    Fill { rng, draws }
+}
+
+// The bytes of a kind. A buffer is worth its while from eight draws on.
+fn fill_kind(g: Philox4x32X8, kind: u64, out: &mut [u8]) -> Fill
+    ensures { λ r. ⌜ Filled wordsOf nextOf (bytesKind (kindAt kind .kind)) g (now (out .entry)) (now (out .exit)) (r .draws) (r .rng) ⌝ }
+{
+    if 512 <= out.len() {
+        return fill_ahead(g, kind, out);
+    }
+    if kind == 6 {
+        return fill_normal_f64(g, out);
+    }
+    fill_draws(g, kind, out)
 }
 
 // The bytes of the fill of a kind, by its number: elements little-endian, floats as their bits. Refused with 4 where `kind` is outside 1 to 6,

@@ -8,8 +8,26 @@ ghost use Rattle.fills.specs.Fill.{Filled};
 ghost use Rattle.fills.specs.Kinds.{u32s, f32s, f64s, normalF32s, normalF64s};
 ghost use Rattle.philox_x8.specs.Machine.{wordsOf, nextOf};
 
-// Kind 2: their low halves, then their high halves.
-pub fn fill_u32(g: Philox4x32X8, out: &mut [u32]) -> Fill
+// Kind 2, draw by draw.
+fn fill_u32_plain(g: Philox4x32X8, out: &mut [u32]) -> Fill
+    ensures { λ r. ⌜ Filled wordsOf nextOf u32s g (now (out .entry)) (now (out .exit)) (r .draws) (r .rng) ⌝ }
+{
+    let m = groups::groups_in(out.len(), 16);
+    let mut rng = g;
+    for j in 0..m {
+        let d = philox_draws::draw(rng);
+        let w = d.words;
+        groups_u32::put_group(out, j * 16, w);
+        rng = d.rng;
+    }
+    Fill {
+        rng,
+        draws: m as u64,
+    }
+}
+
+// Kind 2, by way of a buffer of draws, many of which are made at once.
+fn fill_u32_ahead(g: Philox4x32X8, out: &mut [u32]) -> Fill
     ensures { λ r. ⌜ Filled wordsOf nextOf u32s g (now (out .entry)) (now (out .exit)) (r .draws) (r .rng) ⌝ }
 {
     let mut rng = g;
@@ -24,11 +42,39 @@ pub fn fill_u32(g: Philox4x32X8, out: &mut [u32]) -> Fill
         draws += f.draws;
         at += q * 16;
     }
-    Fill { draws, rng }
+    Fill { rng, draws }
 }
 
-// Kind 3: the units of kind 2.
-pub fn fill_f32(g: Philox4x32X8, out: &mut [f32]) -> Fill
+// Kind 2: their low halves, then their high halves. A buffer is worth its while from eight draws on.
+pub fn fill_u32(g: Philox4x32X8, out: &mut [u32]) -> Fill
+    ensures { λ r. ⌜ Filled wordsOf nextOf u32s g (now (out .entry)) (now (out .exit)) (r .draws) (r .rng) ⌝ }
+{
+    if out.len() < 128 {
+        return fill_u32_plain(g, out);
+    }
+    fill_u32_ahead(g, out)
+}
+
+// Kind 3, draw by draw.
+fn fill_f32_plain(g: Philox4x32X8, out: &mut [f32]) -> Fill
+    ensures { λ r. ⌜ Filled wordsOf nextOf f32s g (now (out .entry)) (now (out .exit)) (r .draws) (r .rng) ⌝ }
+{
+    let m = groups::groups_in(out.len(), 16);
+    let mut rng = g;
+    for j in 0..m {
+        let d = philox_draws::draw(rng);
+        let w = d.words;
+        groups_f32::put_group(out, j * 16, w);
+        rng = d.rng;
+    }
+    Fill {
+        rng,
+        draws: m as u64,
+    }
+}
+
+// Kind 3, by way of a buffer of draws, many of which are made at once.
+fn fill_f32_ahead(g: Philox4x32X8, out: &mut [f32]) -> Fill
     ensures { λ r. ⌜ Filled wordsOf nextOf f32s g (now (out .entry)) (now (out .exit)) (r .draws) (r .rng) ⌝ }
 {
     let mut rng = g;
@@ -43,11 +89,39 @@ pub fn fill_f32(g: Philox4x32X8, out: &mut [f32]) -> Fill
         draws += f.draws;
         at += q * 16;
     }
-    Fill { draws, rng }
+    Fill { rng, draws }
 }
 
-// Kind 4: the units of the words.
-pub fn fill_f64(g: Philox4x32X8, out: &mut [f64]) -> Fill
+// Kind 3: the units of kind 2.
+pub fn fill_f32(g: Philox4x32X8, out: &mut [f32]) -> Fill
+    ensures { λ r. ⌜ Filled wordsOf nextOf f32s g (now (out .entry)) (now (out .exit)) (r .draws) (r .rng) ⌝ }
+{
+    if out.len() < 128 {
+        return fill_f32_plain(g, out);
+    }
+    fill_f32_ahead(g, out)
+}
+
+// Kind 4, draw by draw.
+fn fill_f64_plain(g: Philox4x32X8, out: &mut [f64]) -> Fill
+    ensures { λ r. ⌜ Filled wordsOf nextOf f64s g (now (out .entry)) (now (out .exit)) (r .draws) (r .rng) ⌝ }
+{
+    let m = groups::groups_in(out.len(), 8);
+    let mut rng = g;
+    for j in 0..m {
+        let d = philox_draws::draw(rng);
+        let w = d.words;
+        groups_f64::put_group(out, j * 8, w);
+        rng = d.rng;
+    }
+    Fill {
+        rng,
+        draws: m as u64,
+    }
+}
+
+// Kind 4, by way of a buffer of draws, many of which are made at once.
+fn fill_f64_ahead(g: Philox4x32X8, out: &mut [f64]) -> Fill
     ensures { λ r. ⌜ Filled wordsOf nextOf f64s g (now (out .entry)) (now (out .exit)) (r .draws) (r .rng) ⌝ }
 {
     let mut rng = g;
@@ -62,11 +136,39 @@ pub fn fill_f64(g: Philox4x32X8, out: &mut [f64]) -> Fill
         draws += f.draws;
         at += q * 8;
     }
-    Fill { draws, rng }
+    Fill { rng, draws }
 }
 
-// Kind 5: normals, from the halves of each word.
-pub fn fill_normal_f32(g: Philox4x32X8, out: &mut [f32]) -> Fill
+// Kind 4: the units of the words.
+pub fn fill_f64(g: Philox4x32X8, out: &mut [f64]) -> Fill
+    ensures { λ r. ⌜ Filled wordsOf nextOf f64s g (now (out .entry)) (now (out .exit)) (r .draws) (r .rng) ⌝ }
+{
+    if out.len() < 64 {
+        return fill_f64_plain(g, out);
+    }
+    fill_f64_ahead(g, out)
+}
+
+// Kind 5, draw by draw.
+fn fill_normal_f32_plain(g: Philox4x32X8, out: &mut [f32]) -> Fill
+    ensures { λ r. ⌜ Filled wordsOf nextOf normalF32s g (now (out .entry)) (now (out .exit)) (r .draws) (r .rng) ⌝ }
+{
+    let m = groups::groups_in(out.len(), 16);
+    let mut rng = g;
+    for j in 0..m {
+        let d = philox_draws::draw(rng);
+        let w = d.words;
+        groups_normal_f32::put_group(out, j * 16, w);
+        rng = d.rng;
+    }
+    Fill {
+        rng,
+        draws: m as u64,
+    }
+}
+
+// Kind 5, by way of a buffer of draws: 64 lanes at a time are faster than eight.
+fn fill_normal_f32_ahead(g: Philox4x32X8, out: &mut [f32]) -> Fill
     ensures { λ r. ⌜ Filled wordsOf nextOf normalF32s g (now (out .entry)) (now (out .exit)) (r .draws) (r .rng) ⌝ }
 {
     let mut rng = g;
@@ -81,11 +183,42 @@ pub fn fill_normal_f32(g: Philox4x32X8, out: &mut [f32]) -> Fill
         draws += f.draws;
         at += q * 16;
     }
-    Fill { draws, rng }
+    Fill { rng, draws }
 }
 
-// Kind 6: normals, from the words of two draws.
-pub fn fill_normal_f64(g: Philox4x32X8, out: &mut [f64]) -> Fill
+// Kind 5: normals, from the halves of each word. A buffer is worth its while from 64 lanes on.
+pub fn fill_normal_f32(g: Philox4x32X8, out: &mut [f32]) -> Fill
+    ensures { λ r. ⌜ Filled wordsOf nextOf normalF32s g (now (out .entry)) (now (out .exit)) (r .draws) (r .rng) ⌝ }
+{
+    if out.len() < 128 {
+        return fill_normal_f32_plain(g, out);
+    }
+    fill_normal_f32_ahead(g, out)
+}
+
+// Kind 6, draw by draw.
+fn fill_normal_f64_plain(g: Philox4x32X8, out: &mut [f64]) -> Fill
+    ensures { λ r. ⌜ Filled wordsOf nextOf normalF64s g (now (out .entry)) (now (out .exit)) (r .draws) (r .rng) ⌝ }
+{
+    let m = groups::groups_in(out.len(), 16);
+    let mut rng = g;
+    for j in 0..m {
+        let d = philox_draws::draw(rng);
+        let a = d.words;
+        let mid = d.rng;
+        let e = philox_draws::draw(mid);
+        let b = e.words;
+        groups_normal_f64::put_group(out, j * 16, a, b);
+        rng = e.rng;
+    }
+    Fill {
+        rng,
+        draws: 2 * m as u64,
+    }
+}
+
+// Kind 6, by way of a buffer of draws: 32 lanes at a time are faster than eight.
+fn fill_normal_f64_ahead(g: Philox4x32X8, out: &mut [f64]) -> Fill
     ensures { λ r. ⌜ Filled wordsOf nextOf normalF64s g (now (out .entry)) (now (out .exit)) (r .draws) (r .rng) ⌝ }
 {
     let mut rng = g;
@@ -100,5 +233,15 @@ pub fn fill_normal_f64(g: Philox4x32X8, out: &mut [f64]) -> Fill
         draws += f.draws;
         at += q * 16;
     }
-    Fill { draws, rng }
+    Fill { rng, draws }
+}
+
+// Kind 6: normals, from the words of two draws. A buffer is worth its while from 32 lanes on.
+pub fn fill_normal_f64(g: Philox4x32X8, out: &mut [f64]) -> Fill
+    ensures { λ r. ⌜ Filled wordsOf nextOf normalF64s g (now (out .entry)) (now (out .exit)) (r .draws) (r .rng) ⌝ }
+{
+    if out.len() < 64 {
+        return fill_normal_f64_plain(g, out);
+    }
+    fill_normal_f64_ahead(g, out)
 }

@@ -21,7 +21,7 @@ fn fill_u64_plain(g: Philox4x32X8, out: &mut [u64]) -> Fill
     let mut draws: u64 = 0;
     let mut at = 0;
     while at < out.len() {
-        let d = rng.next_u64x8();
+        let d = philox_draws::draw(rng);
         let w = d.words;
         groups_u64::put_u64(out, at, w);
         rng = d.rng;

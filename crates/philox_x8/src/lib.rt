@@ -13,13 +13,14 @@ fn joined(lo: [u32; 8], hi: [u32; 8]) -> [u64; 8]
     out
 }
 
-// A key, a stream and a block counter; and eight words that wait for the next draw, or zeros where none wait.
+// A key, a stream and a block counter; and eight words that wait for the next draw, or zeros where none wait. (The one byte stands last, so that
+// a copy moves the words as words.)
 pub struct Philox4x32X8 {
     pub key: [u32; 2],
     pub stream: u64,
     pub counter: u64,
-    pub waiting: bool,
     pub pending: [u64; 8],
+    pub waiting: bool,
 }
 
 // Eight words, and the generator after them.

@@ -4,7 +4,7 @@ use xoshiro_x8::Xoshiro256ppX8;
 ghost use Rattle.fills.specs.Buffer.{bytesKind};
 ghost use Rattle.fills.specs.Fill.{Filled};
 ghost use Rattle.fills.specs.FillBytes.{FilledBytes};
-ghost use Rattle.fills.specs.Kinds.{kindAt};
+ghost use Rattle.fills.specs.Kinds.{u64s, u32s, f32s, f64s, normalF32s, normalF64s, kindAt};
 ghost use Rattle.xoshiro_x8.specs.Calls.{wordsOf, nextOf};
 
 // The number of a byte fill's refusal, or 0; its draws, and the generator after them.
@@ -14,8 +14,119 @@ pub struct ByteFill {
     pub rng: Xoshiro256ppX8,
 }
 
-// The bytes of a kind.
-fn fill_kind(g: Xoshiro256ppX8, kind: u64, out: &mut [u8]) -> Fill
+// The bytes of kind 1.
+fn fill_u64(g: Xoshiro256ppX8, out: &mut [u8]) -> Fill
+    ensures { λ r. ⌜ Filled wordsOf nextOf (bytesKind u64s) g (now (out .entry)) (now (out .exit)) (r .draws) (r .rng) ⌝ }
+{
+    let m = groups::groups_in(out.len(), 64);
+    let mut rng = g;
+    for j in 0..m {
+        let d = rng.next_u64x8();
+        let w = d.words;
+        groups_u64::put_bytes(out, j * 64, w);
+        rng = d.rng;
+    }
+    Fill {
+        rng,
+        draws: m as u64,
+    }
+}
+
+// Kind 2.
+fn fill_u32(g: Xoshiro256ppX8, out: &mut [u8]) -> Fill
+    ensures { λ r. ⌜ Filled wordsOf nextOf (bytesKind u32s) g (now (out .entry)) (now (out .exit)) (r .draws) (r .rng) ⌝ }
+{
+    let m = groups::groups_in(out.len(), 64);
+    let mut rng = g;
+    for j in 0..m {
+        let d = rng.next_u64x8();
+        let w = d.words;
+        groups_u32::put_bytes(out, j * 64, w);
+        rng = d.rng;
+    }
+    Fill {
+        rng,
+        draws: m as u64,
+    }
+}
+
+// Kind 3.
+fn fill_f32(g: Xoshiro256ppX8, out: &mut [u8]) -> Fill
+    ensures { λ r. ⌜ Filled wordsOf nextOf (bytesKind f32s) g (now (out .entry)) (now (out .exit)) (r .draws) (r .rng) ⌝ }
+{
+    let m = groups::groups_in(out.len(), 64);
+    let mut rng = g;
+    for j in 0..m {
+        let d = rng.next_u64x8();
+        let w = d.words;
+        groups_f32::put_bytes(out, j * 64, w);
+        rng = d.rng;
+    }
+    Fill {
+        rng,
+        draws: m as u64,
+    }
+}
+
+// Kind 4.
+fn fill_f64(g: Xoshiro256ppX8, out: &mut [u8]) -> Fill
+    ensures { λ r. ⌜ Filled wordsOf nextOf (bytesKind f64s) g (now (out .entry)) (now (out .exit)) (r .draws) (r .rng) ⌝ }
+{
+    let m = groups::groups_in(out.len(), 64);
+    let mut rng = g;
+    for j in 0..m {
+        let d = rng.next_u64x8();
+        let w = d.words;
+        groups_f64::put_bytes(out, j * 64, w);
+        rng = d.rng;
+    }
+    Fill {
+        rng,
+        draws: m as u64,
+    }
+}
+
+// Kind 5, draw by draw.
+fn fill_normal_f32(g: Xoshiro256ppX8, out: &mut [u8]) -> Fill
+    ensures { λ r. ⌜ Filled wordsOf nextOf (bytesKind normalF32s) g (now (out .entry)) (now (out .exit)) (r .draws) (r .rng) ⌝ }
+{
+    let m = groups::groups_in(out.len(), 64);
+    let mut rng = g;
+    for j in 0..m {
+        let d = rng.next_u64x8();
+        let w = d.words;
+        groups_normal_f32::put_bytes(out, j * 64, w);
+        rng = d.rng;
+    }
+    Fill {
+        rng,
+        draws: m as u64,
+    }
+}
+
+// Kind 6, draw by draw.
+fn fill_normal_f64(g: Xoshiro256ppX8, out: &mut [u8]) -> Fill
+    ensures { λ r. ⌜ Filled wordsOf nextOf (bytesKind normalF64s) g (now (out .entry)) (now (out .exit)) (r .draws) (r .rng) ⌝ }
+{
+    let m = groups::groups_in(out.len(), 128);
+    let mut rng = g;
+    for j in 0..m {
+        let d = rng.next_u64x8();
+        let a = d.words;
+        let mid = d.rng;
+        let e = mid.next_u64x8();
+        let b = e.words;
+        groups_normal_f64::put_bytes(out, j * 128, a, b);
+        rng = e.rng;
+    }
+    Fill {
+        rng,
+        draws: 2 * m as u64,
+    }
+}
+
+// The bytes of a kind, by way of a buffer of draws: many lanes of normals at a time are faster than eight.
+fn fill_ahead(g: Xoshiro256ppX8, kind: u64, out: &mut [u8]) -> Fill
     ensures { λ r. ⌜ Filled wordsOf nextOf (bytesKind (kindAt kind .kind)) g (now (out .entry)) (now (out .exit)) (r .draws) (r .rng) ⌝ }
 {
     let mut rng = g;
@@ -30,7 +141,57 @@ fn fill_kind(g: Xoshiro256ppX8, kind: u64, out: &mut [u8]) -> Fill
         draws += f.draws;
         at += m * 64;
     }
-    Fill { draws, rng }
+    Fill { rng, draws }
+}
+
+// The bytes of a kind; called for the normals. A buffer is worth its while from eight draws on.
+fn fill_normals(g: Xoshiro256ppX8, kind: u64, out: &mut [u8]) -> Fill
+    ensures { λ r. ⌜ Filled wordsOf nextOf (bytesKind (kindAt kind .kind)) g (now (out .entry)) (now (out .exit)) (r .draws) (r .rng) ⌝ }
+{
+    if 512 <= out.len() {
+        return fill_ahead(g, kind, out);
+    }
+    if kind == 5 {
+        return fill_normal_f32(g, out);
+    }
+    if kind == 6 {
+        return fill_normal_f64(g, out);
+    }
+    fill_ahead(g, kind, out)
+}
+
+// The bytes of a kind. (The normals are called with a copy and answer in a copy, so that the generator of the others need not be in memory.)
+fn fill_kind(g: Xoshiro256ppX8, kind: u64, out: &mut [u8]) -> Fill
+    ensures { λ r. ⌜ Filled wordsOf nextOf (bytesKind (kindAt kind .kind)) g (now (out .entry)) (now (out .exit)) (r .draws) (r .rng) ⌝ }
+{
+    if kind == 2 {
+        return fill_u32(g, out);
+    }
+    if kind == 3 {
+        return fill_f32(g, out);
+    }
+    if kind == 4 {
+        return fill_f64(g, out);
+    }
+    if kind == 5 {
+        let h = g;
+        let f = fill_normals(h, 5, out);
+        let rng = f.rng;
+        return Fill {
+            rng,
+            draws: f.draws,
+        };
+    }
+    if kind == 6 {
+        let h = g;
+        let f = fill_normals(h, 6, out);
+        let rng = f.rng;
+        return Fill {
+            rng,
+            draws: f.draws,
+        };
+    }
+    fill_u64(g, out)
 }
 
 // The bytes of the fill of a kind, by its number: elements little-endian, floats as their bits. Refused with 4 where `kind` is outside 1 to 6,

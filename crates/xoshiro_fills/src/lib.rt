@@ -12,61 +12,76 @@ ghost use Rattle.xoshiro_x8.specs.Calls.{wordsOf, nextOf};
 pub fn fill_u32(g: Xoshiro256ppX8, out: &mut [u32]) -> Fill
     ensures { λ r. ⌜ Filled wordsOf nextOf u32s g (now (out .entry)) (now (out .exit)) (r .draws) (r .rng) ⌝ }
 {
+    let m = groups::groups_in(out.len(), 16);
     let mut rng = g;
-    let mut draws: u64 = 0;
-    let mut at = 0;
-    let mut buf = [0u64; 128];
-    while at < out.len() {
-        let q = groups::groups_of(out.len(), at, 16, 16);
-        let f = fill_buffer(rng, &mut buf, q);
-        groups_u32::map_u32(out, at, &buf);
-        rng = f.rng;
-        draws += f.draws;
-        at += q * 16;
+    for j in 0..m {
+        let d = rng.next_u64x8();
+        let w = d.words;
+        groups_u32::put_group(out, j * 16, w);
+        rng = d.rng;
     }
-    Fill { draws, rng }
+    Fill {
+        rng,
+        draws: m as u64,
+    }
 }
 
 // Kind 3: the units of kind 2.
 pub fn fill_f32(g: Xoshiro256ppX8, out: &mut [f32]) -> Fill
     ensures { λ r. ⌜ Filled wordsOf nextOf f32s g (now (out .entry)) (now (out .exit)) (r .draws) (r .rng) ⌝ }
 {
+    let m = groups::groups_in(out.len(), 16);
     let mut rng = g;
-    let mut draws: u64 = 0;
-    let mut at = 0;
-    let mut buf = [0u64; 128];
-    while at < out.len() {
-        let q = groups::groups_of(out.len(), at, 16, 16);
-        let f = fill_buffer(rng, &mut buf, q);
-        groups_f32::map_f32(out, at, &buf);
-        rng = f.rng;
-        draws += f.draws;
-        at += q * 16;
+    for j in 0..m {
+        let d = rng.next_u64x8();
+        let w = d.words;
+        groups_f32::put_group(out, j * 16, w);
+        rng = d.rng;
     }
-    Fill { draws, rng }
+    Fill {
+        rng,
+        draws: m as u64,
+    }
 }
 
 // Kind 4: the units of the words.
 pub fn fill_f64(g: Xoshiro256ppX8, out: &mut [f64]) -> Fill
     ensures { λ r. ⌜ Filled wordsOf nextOf f64s g (now (out .entry)) (now (out .exit)) (r .draws) (r .rng) ⌝ }
 {
+    let m = groups::groups_in(out.len(), 8);
     let mut rng = g;
-    let mut draws: u64 = 0;
-    let mut at = 0;
-    let mut buf = [0u64; 128];
-    while at < out.len() {
-        let q = groups::groups_of(out.len(), at, 8, 16);
-        let f = fill_buffer(rng, &mut buf, q);
-        groups_f64::map_f64(out, at, &buf);
-        rng = f.rng;
-        draws += f.draws;
-        at += q * 8;
+    for j in 0..m {
+        let d = rng.next_u64x8();
+        let w = d.words;
+        groups_f64::put_group(out, j * 8, w);
+        rng = d.rng;
     }
-    Fill { draws, rng }
+    Fill {
+        rng,
+        draws: m as u64,
+    }
 }
 
-// Kind 5: normals, from the halves of each word.
-pub fn fill_normal_f32(g: Xoshiro256ppX8, out: &mut [f32]) -> Fill
+// Kind 5, draw by draw.
+fn fill_normal_f32_plain(g: Xoshiro256ppX8, out: &mut [f32]) -> Fill
+    ensures { λ r. ⌜ Filled wordsOf nextOf normalF32s g (now (out .entry)) (now (out .exit)) (r .draws) (r .rng) ⌝ }
+{
+    let m = groups::groups_in(out.len(), 16);
+    let mut rng = g;
+    for j in 0..m {
+        let d = rng.next_u64x8();
+        let w = d.words;
+        groups_normal_f32::put_group(out, j * 16, w);
+        rng = d.rng;
+    }
+    Fill {
+        rng,
+        draws: m as u64,
+    }
+}
+
+// Kind 5, by way of a buffer of draws: 64 lanes at a time are faster than eight.
+fn fill_normal_f32_ahead(g: Xoshiro256ppX8, out: &mut [f32]) -> Fill
     ensures { λ r. ⌜ Filled wordsOf nextOf normalF32s g (now (out .entry)) (now (out .exit)) (r .draws) (r .rng) ⌝ }
 {
     let mut rng = g;
@@ -81,11 +96,42 @@ pub fn fill_normal_f32(g: Xoshiro256ppX8, out: &mut [f32]) -> Fill
         draws += f.draws;
         at += q * 16;
     }
-    Fill { draws, rng }
+    Fill { rng, draws }
 }
 
-// Kind 6: normals, from the words of two draws.
-pub fn fill_normal_f64(g: Xoshiro256ppX8, out: &mut [f64]) -> Fill
+// Kind 5: normals, from the halves of each word. A buffer is worth its while from 64 lanes on.
+pub fn fill_normal_f32(g: Xoshiro256ppX8, out: &mut [f32]) -> Fill
+    ensures { λ r. ⌜ Filled wordsOf nextOf normalF32s g (now (out .entry)) (now (out .exit)) (r .draws) (r .rng) ⌝ }
+{
+    if out.len() < 128 {
+        return fill_normal_f32_plain(g, out);
+    }
+    fill_normal_f32_ahead(g, out)
+}
+
+// Kind 6, draw by draw.
+fn fill_normal_f64_plain(g: Xoshiro256ppX8, out: &mut [f64]) -> Fill
+    ensures { λ r. ⌜ Filled wordsOf nextOf normalF64s g (now (out .entry)) (now (out .exit)) (r .draws) (r .rng) ⌝ }
+{
+    let m = groups::groups_in(out.len(), 16);
+    let mut rng = g;
+    for j in 0..m {
+        let d = rng.next_u64x8();
+        let a = d.words;
+        let mid = d.rng;
+        let e = mid.next_u64x8();
+        let b = e.words;
+        groups_normal_f64::put_group(out, j * 16, a, b);
+        rng = e.rng;
+    }
+    Fill {
+        rng,
+        draws: 2 * m as u64,
+    }
+}
+
+// Kind 6, by way of a buffer of draws: 32 lanes at a time are faster than eight.
+fn fill_normal_f64_ahead(g: Xoshiro256ppX8, out: &mut [f64]) -> Fill
     ensures { λ r. ⌜ Filled wordsOf nextOf normalF64s g (now (out .entry)) (now (out .exit)) (r .draws) (r .rng) ⌝ }
 {
     let mut rng = g;
@@ -100,5 +146,15 @@ pub fn fill_normal_f64(g: Xoshiro256ppX8, out: &mut [f64]) -> Fill
         draws += f.draws;
         at += q * 16;
     }
-    Fill { draws, rng }
+    Fill { rng, draws }
+}
+
+// Kind 6: normals, from the words of two draws. A buffer is worth its while from 32 lanes on.
+pub fn fill_normal_f64(g: Xoshiro256ppX8, out: &mut [f64]) -> Fill
+    ensures { λ r. ⌜ Filled wordsOf nextOf normalF64s g (now (out .entry)) (now (out .exit)) (r .draws) (r .rng) ⌝ }
+{
+    if out.len() < 64 {
+        return fill_normal_f64_plain(g, out);
+    }
+    fill_normal_f64_ahead(g, out)
 }

@@ -1,73 +1,43 @@
 // Fills of words of the eight-lane xoshiro256++: kind 1, and the words that the fills of the other kinds are made of.
 use xoshiro_x8::Xoshiro256ppX8;
-ghost use Prim.Native.Nat.{_*_, _≤_, min};
-ghost use lib.ListN.{length};
+ghost use Prim.Native.Nat.{min};
 ghost use Rattle.fills.specs.Buffer.{Drawn};
 ghost use Rattle.fills.specs.Fill.{Filled};
 ghost use Rattle.fills.specs.Kinds.{u64s};
 ghost use Rattle.xoshiro_x8.specs.Calls.{wordsOf, nextOf};
 
-// The draws that a fill made, and the generator after them.
+// The generator after a fill, and the draws that it made. (In this order: four words that are moved at once are then words of one row.)
 pub struct Fill {
-    pub draws: u64,
     pub rng: Xoshiro256ppX8,
+    pub draws: u64,
 }
 
-// Kind 1, draw by draw: what the faster fill below is held to, and what it calls for its last places.
-fn fill_u64_plain(g: Xoshiro256ppX8, out: &mut [u64]) -> Fill
-    ensures { λ r. ⌜ Filled wordsOf nextOf u64s g (now (out .entry)) (now (out .exit)) (r .draws) (r .rng) ⌝ }
-{
-    let mut rng = g;
-    let mut draws: u64 = 0;
-    let mut at = 0;
-    while at < out.len() {
-        let d = rng.next_u64x8();
-        let w = d.words;
-        groups_u64::put_u64(out, at, w);
-        rng = d.rng;
-        draws += 1;
-        at += 8;
-    }
-    Fill { draws, rng }
-}
-
-// Kind 1: the words, of many draws at once while two draws or more are left.
+// Kind 1: the words.
 pub fn fill_u64(g: Xoshiro256ppX8, out: &mut [u64]) -> Fill
     ensures { λ r. ⌜ Filled wordsOf nextOf u64s g (now (out .entry)) (now (out .exit)) (r .draws) (r .rng) ⌝ }
 {
+    let m = groups::groups_in(out.len(), 8);
     let mut rng = g;
-    let mut draws: u64 = 0;
-    let mut at = 0;
-    while 16 <= out.len() - at {
-        let d = xoshiro_draws::draw_many(rng, out, at);
+    for j in 0..m {
+        let d = rng.next_u64x8();
+        let w = d.words;
+        groups_u64::put_u64(out, j * 8, w);
         rng = d.rng;
-        draws += d.draws as u64;
-        at += d.draws * 8;
     }
-    if out.len() == at {
-        return Fill { draws, rng };
-    }
-    let rest = fill_u64_plain(rng, &mut out[at..]);
-    let last = rest.rng;
     Fill {
-        draws: draws + rest.draws,
-        rng: last,
+        rng,
+        draws: m as u64,
     }
 }
 
-// The words of `m` draws, in the first places of `b`. The places after them stay.
-fn fill_first(g: Xoshiro256ppX8, b: &mut [u64], m: usize) -> Fill
-    requires { ⌜ m * 8 ≤ length (now b) ⌝ }
-    ensures { λ r. ⌜ Drawn wordsOf nextOf g m (now (b .entry)) (now (b .exit)) (r .draws) (r .rng) ⌝ }
-{
-    let n = m * 8;
-    fill_u64(g, &mut b[..n])
-}
-
-// The words of `m` draws, at most 16, in a buffer. The other kinds make their groups of it: drawing ahead is faster than turning each draw
-// into elements at once.
+// The words of `m` draws, at most 16, in a buffer. The normals make their groups of it: many lanes at a time are faster than eight.
 pub fn fill_buffer(g: Xoshiro256ppX8, b: &mut [u64; 128], m: usize) -> Fill
     ensures { λ r. ⌜ Drawn wordsOf nextOf g (min 16 m) (now (b .entry)) (now (b .exit)) (r .draws) (r .rng) ⌝ }
 {
-    fill_first(g, b, groups::room(16, 0, m))
+    let n = groups::room(16, 0, m);
+    let rng = xoshiro_draws::draw_many(g, b, n);
+    Fill {
+        rng,
+        draws: n as u64,
+    }
 }

@@ -26,10 +26,11 @@ pub struct Placed {
     pub jumps: u64,
 }
 
-// A generator; or the number of a refusal and a generator of zero bits.
+// A generator; or the number of a refusal and a generator of zero bits. (In this order: four words that are moved at once are then words
+// of one row.)
 pub struct LanesAnswer {
-    pub refusal: u64,
     pub rng: Xoshiro256ppX8,
+    pub refusal: u64,
 }
 
 // The rows as the step takes them, and back.

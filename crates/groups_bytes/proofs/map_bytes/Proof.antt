@@ -1,42 +1,36 @@
 -- `groups_bytes::map_bytes` meets its contract.
-use Rattle.fills.proofs.Flat.{ahead-bytes, word-at, unit-at}
-use Rattle.fills.proofs.Sounds.{u64s-sound, f64s-sound}
-use Rattle.fills.specs.Kinds.{u64s, f64s, kindAt}
+use Rattle.fills.specs.Kinds.{kindAt}
 use Rattle.groups_bytes.proofs.Numbers.{mapped-by, mapped-other}
 use borrow.Author.Needs.{needs}
-use lib.Dec.{lit<}
-use mathlib.Core.Path.{refl}
 use Rattle.groups_bytes.proofs.map_bytes.Statement.{statement}
 use Rattle.groups_bytes.proofs.map_bytes.Tie as tie
 
 returns : tie.Need-returns
 unfolding kindAt
-returns c = let m = c .before .before in mapped-by _ _ _ _ 2 (m .before .before .if1 .taken) (m .bytes-u32 .ensures)
+returns c = let m = c .before .before in mapped-by _ _ _ _ 2 (m .before .before .if1 .taken) (m .map-bytes .ensures)
 
 returns-2 : tie.Need-returns-2
 unfolding kindAt
-returns-2 c = let m = c .before .before in mapped-by _ _ _ _ 3 (m .before .before .if2 .taken) (m .bytes-f32 .ensures)
+returns-2 c = let m = c .before .before in mapped-by _ _ _ _ 3 (m .before .before .if2 .taken) (m .map-bytes2 .ensures)
 
 returns-3 : tie.Need-returns-3
 unfolding kindAt
-returns-3 c =
-    let m = c .before .before in
-    mapped-by _ _ _ _ 4 (m .before .before .if3 .taken) (ahead-bytes f64s f64s-sound (lit< tt) _ _ _ _ refl (λ k h. unit-at _ k) (m .copy-units-f64 .ensures))
+returns-3 c = let m = c .before .before in mapped-by _ _ _ _ 4 (m .before .before .if3 .taken) (m .map-bytes3 .ensures)
 
 returns-4 : tie.Need-returns-4
 unfolding kindAt
-returns-4 c = let m = c .before .before in mapped-by _ _ _ _ 5 (m .before .before .if4 .taken) (m .bytes-normal-f32 .ensures)
+returns-4 c = let m = c .before .before in mapped-by _ _ _ _ 5 (m .before .before .if4 .taken) (m .map-bytes4 .ensures)
 
 returns-5 : tie.Need-returns-5
 unfolding kindAt
-returns-5 c = let m = c .before .before in mapped-by _ _ _ _ 6 (m .before .before .if5 .taken) (m .bytes-normal-f64 .ensures)
+returns-5 c = let m = c .before .before in mapped-by _ _ _ _ 6 (m .before .before .if5 .taken) (m .map-bytes5 .ensures)
 
 returns-6 : tie.Need-returns-6
 returns-6 c =
     let m = c .before .before in
     let i = m .before .before in
     mapped-other _ _ _ _ (i .before .before .before .before .if1 .left) (i .before .before .before .if2 .left) (i .before .before .if3 .left) (i .before .if4 .left) (i .if5 .left)
-    (ahead-bytes u64s u64s-sound (lit< tt) _ _ _ _ refl (λ k h. word-at _ k) (m .copy-u64 .ensures))
+    (m .map-bytes6 .ensures)
 
 pub map-bytes-spec : {M : Type 1} → statement M
 map-bytes-spec = tie.close (tie.spec (λ c κs. search needs) (λ c. search needs) returns (λ c κs. search needs) (λ c. search needs) returns-2 (λ c κs. search needs) (λ c. search needs) returns-3 (λ c κs. search needs) (λ c. search needs) returns-4 (λ c κs. search needs) (λ c. search needs) returns-5 (λ c κs. search needs) (λ c. search needs) returns-6)

@@ -21,7 +21,7 @@ loop-again c =
     let p = c .before .before in
     let d = p .before in
     let l = d .before .before in
-    group-more (l .before .loop .inv) (search needs) (p .write-f32 .ensures) (ap (λ w. f32s .group (λ _. w)) (d .draw-of .ensures ∙ ap (drawOf _) (omega arith)))
+    group-more (l .before .loop .inv) (search needs) (p .put-group .ensures) (ap (λ w. f32s .group (λ _. w)) (d .draw-of .ensures ∙ ap (drawOf _) (omega arith)))
 
 returns : tie.Need-returns Inv-loop μ-loop
 returns c = group-end (c .before .loop .inv) (search needs)

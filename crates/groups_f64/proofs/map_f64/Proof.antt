@@ -19,13 +19,12 @@ abbrev μ-loop : tie.MeasureT-loop
 loop-again : tie.Need-loop-again Inv-loop μ-loop
 loop-again c =
     let p = c .before .before in
-    let u = p .before in
-    let d = u .before in
+    let d = p .before in
     let l = d .before .before in
-    group-more (l .before .loop .inv) (search needs) (p .put-f64 .ensures) (u .units-f64 .ensures ∙ ap (λ w. f64s .group (λ _. w)) (d .draw-of .ensures ∙ ap (drawOf _) (omega arith)))
+    group-more (l .before .loop .inv) (search needs) (p .put-group .ensures) (ap (λ w. f64s .group (λ _. w)) (d .draw-of .ensures ∙ ap (drawOf _) (omega arith)))
 
 returns : tie.Need-returns Inv-loop μ-loop
 returns c = group-end (c .before .loop .inv) (search needs)
 
 pub map-f64-spec : {M : Type 1} → statement M
-map-f64-spec = tie.close (tie.spec Inv-loop μ-loop (λ c κs. search needs) (λ c. group-none) (λ c. search needs) (λ c. search needs) (λ c κs. search needs) (λ c κs. search needs) (λ c κs. search needs) (λ c. search needs) (λ c. search needs) loop-again (λ c. search needs) returns)
+map-f64-spec = tie.close (tie.spec Inv-loop μ-loop (λ c κs. search needs) (λ c. group-none) (λ c. search needs) (λ c. search needs) (λ c κs. search needs) (λ c κs. search needs) (λ c. search needs) (λ c. search needs) loop-again (λ c. search needs) returns)

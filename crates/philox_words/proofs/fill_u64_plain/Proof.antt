@@ -24,7 +24,7 @@ unfolding drawn iterate
 loop-again c =
     let p = c .before .before .before in
     let d = p .before .before .before in
-    more (d .before .before .loop .inv) (search needs) _ (ap (λ (x : Draw). x .words) (d .next-u64x8 .ensures)) (p .put-u64 .ensures) (ap (λ (x : Draw). x .rng) (d .next-u64x8 .ensures))
+    more (d .before .before .loop .inv) (search needs) _ (ap (λ (x : Draw). x .words) (d .draw .ensures)) (p .put-u64 .ensures) (ap (λ (x : Draw). x .rng) (d .draw .ensures))
 
 pub fill-u64-plain-spec : {M : Type 1} → statement M
 fill-u64-plain-spec = tie.close (tie.spec Inv-loop μ-loop (λ c. start eight-words u64s-sound) (λ c κs. search needs) (λ c κs. search needs) (λ c. search needs) (λ c. search needs) (λ c. search needs) loop-again (λ c. search needs) (λ c. finish (c .before .loop .inv) (search needs)))

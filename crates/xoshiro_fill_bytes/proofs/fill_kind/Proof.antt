@@ -1,38 +1,33 @@
 -- `xoshiro_fill_bytes::fill_kind` meets its contract.
-use Prim.Native.Nat.{ℕ, _+_, _-_, min}
-use Rattle.fills.proofs.Buffered.{more-buffered}
-use Rattle.fills.proofs.Bytes.{row-sound}
-use Rattle.fills.proofs.Filling.{Filling, start, same-place, finish}
-use Rattle.fills.specs.Buffer.{bytesKind, groupsAhead}
 use Rattle.fills.specs.Kinds.{kindAt}
-use Rattle.groups_bytes.proofs.Numbers.{ahead}
-use Rattle.xoshiro_x8.proofs.Theorems.{eight-words}
-use Rattle.xoshiro_x8.specs.Calls.{wordsOf, nextOf}
+use Rattle.groups_bytes.proofs.Parts.{by-number, by-other}
 use borrow.Author.Needs.{needs}
-use lib.ListN.{length}
-use mathlib.Core.Path.{_≡_, refl, ap, _∙_}
-use native.Mathlib.Omega.{arith}
 use Rattle.xoshiro_fill_bytes.proofs.fill_kind.Statement.{statement}
 use Rattle.xoshiro_fill_bytes.proofs.fill_kind.Tie as tie
 
-abbrev Inv-loop : tie.InvT-loop
-Inv-loop kind out₀ rng₀ draws₀ at₀ buf₀ out rng draws at buf = Filling wordsOf nextOf (bytesKind (kindAt kind .kind)) rng₀ out₀ out at draws rng
+returns : tie.Need-returns
+unfolding kindAt
+returns c = let f = c .before .before in by-number 2 (f .before .before .if1 .taken) (f .fill-u32 .ensures)
 
-abbrev μ-loop : tie.MeasureT-loop
-μ-loop kind out₀ rng₀ draws₀ at₀ buf₀ out rng draws at buf = length out₀ - at
+returns-2 : tie.Need-returns-2
+unfolding kindAt
+returns-2 c = let f = c .before .before in by-number 3 (f .before .before .if2 .taken) (f .fill-f32 .ensures)
 
-loop-again : tie.Need-loop-again Inv-loop μ-loop
-loop-again c =
-    let m = c .before .before .before .before in
-    let f = m .before .before .before in
-    let d = f .before .before in
-    let l = d .before .before in
-    let K = bytesKind (kindAt (l .before .before .args .kind) .kind) in
-    let n : ℕ = length (l .loop .out) - l .loop .at in
-    let a = ahead (l .before .before .args .kind) n (d .draws-ahead .result) (d .draws-ahead .ensures .0) in
-    let few : min 16 (d .draws-ahead .result) ≡ d .draws-ahead .result = omega (arith, a .few) in
-    same-place (more-buffered (groupsAhead K n) (l .loop .inv) (f .fill-buffer .ensures) (few ∙ d .draws-ahead .ensures .0) (omega (arith, a .room, l .loop .inv .same)) (m .map-bytes .ensures))
-    (ap (λ (x : ℕ). l .loop .at + x) (a .bytes)) refl
+returns-3 : tie.Need-returns-3
+unfolding kindAt
+returns-3 c = let f = c .before .before in by-number 4 (f .before .before .if3 .taken) (f .fill-f64 .ensures)
+
+returns-4 : tie.Need-returns-4
+returns-4 c = let f = c .before .before .before in by-number 5 (f .before .before .if4 .taken) (f .fill-normals .ensures)
+
+returns-5 : tie.Need-returns-5
+returns-5 c = let f = c .before .before .before in by-number 6 (f .before .before .if5 .taken) (f .fill-normals2 .ensures)
+
+returns-6 : tie.Need-returns-6
+returns-6 c =
+    let m = c .before .before in
+    let i = m .before .before in
+    by-other (i .before .before .before .before .if1 .left) (i .before .before .before .if2 .left) (i .before .before .if3 .left) (i .before .if4 .left) (i .if5 .left) (m .fill-u64 .ensures)
 
 pub fill-kind-spec : {M : Type 1} → statement M
-fill-kind-spec = tie.close (tie.spec Inv-loop μ-loop (λ c. start eight-words (row-sound _)) (λ c κs. search needs) (λ c κs. search needs) (λ c κs. search needs) (λ c. search needs) (λ c. search needs) (λ c. search needs) (λ c. omega (arith, c .before .before .before .before .before .before .before .before .before .draws-ahead .ensures .3 (search needs))) loop-again (λ c. search needs) (λ c. finish (c .before .loop .inv) (search needs)))
+fill-kind-spec = tie.close (tie.spec (λ c κs. search needs) (λ c. search needs) returns (λ c κs. search needs) (λ c. search needs) returns-2 (λ c κs. search needs) (λ c. search needs) returns-3 (λ c κs. search needs) (λ c. search needs) returns-4 (λ c κs. search needs) (λ c. search needs) returns-5 (λ c κs. search needs) (λ c. search needs) returns-6)

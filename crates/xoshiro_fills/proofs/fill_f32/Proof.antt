@@ -1,31 +1,28 @@
 -- `xoshiro_fills::fill_f32` meets its contract.
 use Prim.Native.Nat.{_-_}
-use Rattle.fills.proofs.Buffered.{more-buffered}
-use Rattle.fills.proofs.Filling.{Filling, start, finish}
+use Rattle.fills.proofs.Draws.{Turning, turns-none, one-draw, turns-end}
 use Rattle.fills.proofs.Sounds.{f32s-sound}
-use Rattle.fills.specs.Buffer.{storedGroups}
 use Rattle.fills.specs.Kinds.{f32s}
 use Rattle.xoshiro_x8.proofs.Theorems.{eight-words}
-use Rattle.xoshiro_x8.specs.Calls.{wordsOf, nextOf}
+use Rattle.xoshiro_x8.specs.Calls.{wordsOf, nextOf, drawn}
+use Rattle.xoshiro_x8.specs.declared.Draw.{Draw}
 use borrow.Author.Needs.{needs}
-use lib.ListN.{length}
-use mathlib.Core.Path.{sym, ap, _∙_}
-use native.Mathlib.Omega.{arith}
+use mathlib.Core.Path.{refl, ap}
 use Rattle.xoshiro_fills.proofs.fill_f32.Statement.{statement}
 use Rattle.xoshiro_fills.proofs.fill_f32.Tie as tie
 
 abbrev Inv-loop : tie.InvT-loop
-Inv-loop out₀ rng₀ draws₀ at₀ buf₀ out rng draws at buf = Filling wordsOf nextOf f32s rng₀ out₀ out at draws rng
+Inv-loop out₀ m rng₀ j₀ out rng j = Turning wordsOf nextOf f32s rng₀ out₀ m out j rng
 
 abbrev μ-loop : tie.MeasureT-loop
-μ-loop out₀ rng₀ draws₀ at₀ buf₀ out rng draws at buf = length out₀ - at
+μ-loop out₀ m rng₀ j₀ out rng j = m - j
 
 loop-again : tie.Need-loop-again Inv-loop μ-loop
+unfolding drawn
 loop-again c =
-    let m = c .before .before .before .before in
-    let f = m .before .before .before in
-    let q = f .before .before in
-    more-buffered (q .groups-of .result) (q .before .before .loop .inv) (f .fill-buffer .ensures) (omega arith) (search needs) (m .map-f32 .ensures ∙ ap (storedGroups f32s _ _ _) (sym (q .groups-of .ensures)))
+    let p = c .before .before .before in
+    let d = p .before .before .before in
+    one-draw refl (d .before .before .loop .inv) (d .before .loop-test .taken) (ap (λ (x : Draw). x .words) (d .next-u64x8 .ensures)) (ap (λ (x : Draw). x .rng) (d .next-u64x8 .ensures)) (p .put-group .ensures)
 
 pub fill-f32-spec : {M : Type 1} → statement M
-fill-f32-spec = tie.close (tie.spec Inv-loop μ-loop (λ c. start eight-words f32s-sound) (λ c κs. search needs) (λ c κs. search needs) (λ c κs. search needs) (λ c. search needs) (λ c. search needs) (λ c. search needs) (λ c. search needs) loop-again (λ c. search needs) (λ c. finish (c .before .loop .inv) (search needs)))
+fill-f32-spec = tie.close (tie.spec Inv-loop μ-loop (λ c κs. search needs) (λ c. turns-none eight-words f32s-sound (c .groups-in .ensures)) (λ c κs. search needs) (λ c. search needs) (λ c κs. search needs) (λ c. search needs) (λ c. search needs) loop-again (λ c. search needs) (λ c. turns-end (c .before .loop .inv) (c .loop-test .left) (search needs)))

@@ -1,53 +1,28 @@
 -- `xoshiro_words::fill_u64` meets its contract.
-use Prim.Native.Nat.{_-_, _≤_}
-use Rattle.fills.proofs.Ahead.{more-drawn, finish-part}
-use Rattle.fills.proofs.Filling.{Filling, start, finish}
+use Prim.Native.Nat.{_-_}
+use Rattle.fills.proofs.Draws.{Turning, turns-none, one-draw, turns-end}
 use Rattle.fills.proofs.Sounds.{u64s-sound}
 use Rattle.fills.specs.Kinds.{u64s}
 use Rattle.xoshiro_x8.proofs.Theorems.{eight-words}
-use Rattle.xoshiro_x8.specs.Calls.{wordsOf, nextOf}
+use Rattle.xoshiro_x8.specs.Calls.{wordsOf, nextOf, drawn}
+use Rattle.xoshiro_x8.specs.declared.Draw.{Draw}
 use borrow.Author.Needs.{needs}
-use lib.ListN.{length}
-use native.Mathlib.Omega.{arith}
+use mathlib.Core.Path.{refl, ap}
 use Rattle.xoshiro_words.proofs.fill_u64.Statement.{statement}
 use Rattle.xoshiro_words.proofs.fill_u64.Tie as tie
 
 abbrev Inv-loop : tie.InvT-loop
-Inv-loop out₀ rng₀ draws₀ at₀ out rng draws at = (at ≤ length out₀) × Filling wordsOf nextOf u64s rng₀ out₀ out at draws rng
+Inv-loop out₀ m rng₀ j₀ out rng j = Turning wordsOf nextOf u64s rng₀ out₀ m out j rng
 
 abbrev μ-loop : tie.MeasureT-loop
-μ-loop out₀ rng₀ draws₀ at₀ out rng draws at = length out₀ - at
+μ-loop out₀ m rng₀ j₀ out rng j = m - j
 
 loop-again : tie.Need-loop-again Inv-loop μ-loop
+unfolding drawn
 loop-again c =
-    let d = c .before .before .before .before in
-    let F = d .before .before .before .loop .inv .1 in
-    let D = d .draw-many .ensures in
-    (omega (arith, D .count, F .same), more-drawn F D (omega (arith, D .count, F .same)))
-
-returns-2 : tie.Need-returns-2 Inv-loop μ-loop
-returns-2 c =
-    let r = c .before .before .before .before in
-    let l = r .before .before .before .before .loop .inv in
-    finish-part (l .1) (l .0) (r .fill-u64-plain .ensures)
+    let p = c .before .before .before in
+    let d = p .before .before .before in
+    one-draw refl (d .before .before .loop .inv) (d .before .loop-test .taken) (ap (λ (x : Draw). x .words) (d .next-u64x8 .ensures)) (ap (λ (x : Draw). x .rng) (d .next-u64x8 .ensures)) (p .put-u64 .ensures)
 
 pub fill-u64-spec : {M : Type 1} → statement M
-fill-u64-spec = tie.close (tie.spec Inv-loop μ-loop
-    (λ c. (search needs, start eight-words u64s-sound))
-    (λ c. search needs)
-    (λ c κs. search needs)
-    (λ c. search needs)
-    (λ c. search needs)
-    (λ c. search needs)
-    (λ c. search needs)
-    loop-again
-    (λ c. search needs)
-    (λ c. finish (c .before .before .loop .inv .1) (search needs))
-    (λ c. search needs)
-    (λ c. search needs)
-    (λ c. search needs)
-    (λ c. search needs)
-    (λ c κs. search needs)
-    (λ c. search needs)
-    (λ c. search needs)
-    returns-2)
+fill-u64-spec = tie.close (tie.spec Inv-loop μ-loop (λ c κs. search needs) (λ c. turns-none eight-words u64s-sound (c .groups-in .ensures)) (λ c κs. search needs) (λ c. search needs) (λ c κs. search needs) (λ c. search needs) (λ c. search needs) loop-again (λ c. search needs) (λ c. turns-end (c .before .loop .inv) (c .loop-test .left) (search needs)))

@@ -1,0 +1,16 @@
+-- A fill of one kind as that of its number. For any engine. Assumes nothing.
+use mathlib.Core.List.{List}
+use mathlib.Core.Path.{_≡_, sym, subst}
+use Prim.Native.Nat.{ℕ}
+use Rattle.fills.specs.Buffer.{bytesKind}
+use Rattle.fills.specs.Fill.{Filled}
+use Rattle.fills.specs.Kinds.{AnyKind, kindAt, u64s}
+use Rattle.groups_bytes.proofs.Numbers.{is-other}
+
+module _ {G : Type 0} {words : G → List ℕ} {next : G → G} {g g′ : G} {before after : List ℕ} {draws k : ℕ} where
+  pub by-number : (n : ℕ) → k ≡ n → Filled words next (bytesKind (kindAt n .kind)) g before after draws g′ → Filled words next (bytesKind (kindAt k .kind)) g before after draws g′
+  by-number n e F = rw e F
+
+  pub by-other : (k ≡ 2 → ⊥) → (k ≡ 3 → ⊥) → (k ≡ 4 → ⊥) → (k ≡ 5 → ⊥) → (k ≡ 6 → ⊥) → Filled words next (bytesKind u64s) g before after draws g′
+      → Filled words next (bytesKind (kindAt k .kind)) g before after draws g′
+  by-other p q r s t F = subst (λ (K : AnyKind). Filled words next (bytesKind (K .kind)) g before after draws g′) (sym (is-other k p q r s t)) F

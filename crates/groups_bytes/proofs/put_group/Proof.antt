@@ -1,0 +1,36 @@
+-- `groups_bytes::put_group` meets its contract.
+use Rattle.fills.specs.Kinds.{kindAt}
+use Rattle.groups_bytes.proofs.Numbers.{grouped-by, grouped-other}
+use borrow.Author.Needs.{needs}
+use Rattle.groups_bytes.proofs.put_group.Statement.{statement}
+use Rattle.groups_bytes.proofs.put_group.Tie as tie
+
+returns : tie.Need-returns
+unfolding kindAt
+returns c = let m = c .before .before in grouped-by _ _ _ _ 2 (m .before .before .if1 .taken) (m .put-bytes .ensures)
+
+returns-2 : tie.Need-returns-2
+unfolding kindAt
+returns-2 c = let m = c .before .before in grouped-by _ _ _ _ 3 (m .before .before .if2 .taken) (m .put-bytes2 .ensures)
+
+returns-3 : tie.Need-returns-3
+unfolding kindAt
+returns-3 c = let m = c .before .before in grouped-by _ _ _ _ 4 (m .before .before .if3 .taken) (m .put-bytes3 .ensures)
+
+returns-4 : tie.Need-returns-4
+unfolding kindAt
+returns-4 c = let m = c .before .before in grouped-by _ _ _ _ 5 (m .before .before .if4 .taken) (m .put-bytes4 .ensures)
+
+returns-5 : tie.Need-returns-5
+unfolding kindAt
+returns-5 c = let m = c .before .before in grouped-by _ _ _ _ 6 (m .before .before .if5 .taken) (m .put-bytes5 .ensures)
+
+returns-6 : tie.Need-returns-6
+returns-6 c =
+    let m = c .before .before in
+    let i = m .before .before in
+    grouped-other _ _ _ _ (i .before .before .before .before .if1 .left) (i .before .before .before .if2 .left) (i .before .before .if3 .left) (i .before .if4 .left) (i .if5 .left)
+    (m .put-bytes6 .ensures)
+
+pub put-group-spec : {M : Type 1} → statement M
+put-group-spec = tie.close (tie.spec (λ c κs. search needs) (λ c. search needs) returns (λ c κs. search needs) (λ c. search needs) returns-2 (λ c κs. search needs) (λ c. search needs) returns-3 (λ c κs. search needs) (λ c. search needs) returns-4 (λ c κs. search needs) (λ c. search needs) returns-5 (λ c κs. search needs) (λ c. search needs) returns-6)

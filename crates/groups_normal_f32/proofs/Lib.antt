@@ -1,0 +1,2 @@
+-- The bytes of a group, and eight groups at a time.
+pub mod Eight

@@ -1,0 +1,11 @@
+-- `groups_normal_f32::put_group` meets its contract.
+use borrow.Author.Needs.{needs}
+use Rattle.base.proofs.Stored.{stored-out}
+use Rattle.groups_normal_f32.proofs.put_group.Statement.{statement}
+use Rattle.groups_normal_f32.proofs.put_group.Tie as tie
+
+returns-2 : tie.Need-returns-2
+returns-2 c = stored-out _ _ _ (search needs)
+
+pub put-group-spec : {M : Type 1} → statement M
+put-group-spec = tie.close (tie.spec (λ c κs. search needs) (λ c. search needs) (λ c. search needs) returns-2)
