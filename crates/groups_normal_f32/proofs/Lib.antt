@@ -1,2 +1,1 @@
--- The bytes of a group, and eight groups at a time.
 pub mod Eight

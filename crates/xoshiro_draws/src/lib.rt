@@ -1,12 +1,12 @@
-// Many draws of the eight-lane xoshiro256++ at once, straight into a slice: the eight-lane step in a loop with nothing else in it, so that its 32
-// words of state stay in vector registers.
+// Many draws of the eight-lane xoshiro256++ at once, straight into a slice: a loop of the eight-lane step and of stores, so that the 32 words
+// of state stay in vector registers.
 use xoshiro_x8::Xoshiro256ppX8;
 ghost use Prim.Native.Nat.{_/_, min};
 ghost use lib.ListN.{length};
 ghost use Rattle.fills.specs.Buffer.{DrawnAt};
 ghost use Rattle.xoshiro_x8.specs.Calls.{wordsOf, nextOf};
 
-// `m` draws, or as many as `out` has whole places for, their words one after another in the first places.
+// `m` draws, or as many as `out` has room for, their words one after another in the first places.
 pub fn draw_many(g: Xoshiro256ppX8, out: &mut [u64], m: usize) -> Xoshiro256ppX8
     ensures { λ r. ⌜ DrawnAt wordsOf nextOf g 0 (min (length (now (out .entry)) / 8) m) (now (out .entry)) (now (out .exit)) (min (length (now (out .entry)) / 8) m) r ⌝ }
 {

@@ -14,5 +14,8 @@ all n w {r} e =
     let f : r ≡ min (roundUp n w) n = rw z at e in
     omega (arith, round-most n w)
 
+returns : tie.Need-returns
+returns c = all (c .before .args .len) (c .before .args .places) (c .groups-of .ensures)
+
 pub groups-in-spec : {M : Type 1} → statement M
-groups-in-spec = tie.close (tie.spec (λ c κs. search needs) (λ c. all (c .before .args .len) (c .before .args .places) (c .groups-of .ensures)))
+groups-in-spec = tie.close (tie.spec (λ c κs. search needs) returns)

@@ -1,5 +1,6 @@
 -- `groups_normal_f32::bytes_of_eight` meets its contract.
 use Prim.Native.Nat.{_*_, _-_}
+use Rattle.groups_f32.proofs.Halves.{halves-bytes}
 use borrow.Author.Needs.{needs}
 use lib.ListN.{drop}
 use mathlib.Core.Path.{refl, ap}
@@ -9,7 +10,7 @@ use Rattle.fills.proofs.Buffered.{Grouping, group-none, group-more, group-end}
 use Rattle.fills.specs.Buffer.{bytesKind}
 use Rattle.fills.specs.FillBytes.{bytesOf}
 use Rattle.fills.specs.Kinds.{normalF32s}
-use Rattle.groups_normal_f32.proofs.Eight.{halves-bytes, eight-group}
+use Rattle.groups_normal_f32.proofs.Eight.{eight-group}
 use Rattle.groups_normal_f32.proofs.bytes_of_eight.Statement.{statement}
 use Rattle.groups_normal_f32.proofs.bytes_of_eight.Tie as tie
 

@@ -8,7 +8,7 @@ use Rattle.fills.specs.FillBytes.{bytesOf}
 use Rattle.fills.specs.Kinds.{normalF32s}
 use Rattle.math_box_muller_f32.specs.Lanes.{lanesOf}
 use Rattle.math_sincos_turns_f32.specs.declared.CosSin.{CosSin}
-use Rattle.groups_normal_f32.proofs.Eight.{halves-bytes}
+use Rattle.groups_f32.proofs.Halves.{halves-bytes}
 use Rattle.groups_normal_f32.proofs.put_bytes.Statement.{statement}
 use Rattle.groups_normal_f32.proofs.put_bytes.Tie as tie
 

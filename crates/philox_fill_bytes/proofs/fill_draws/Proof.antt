@@ -1,5 +1,5 @@
 -- `philox_fill_bytes::fill_draws` meets its contract.
-use Prim.Native.Nat.{ℕ, _+_, _-_, _*_}
+use Prim.Native.Nat.{ℕ, _-_, _*_}
 use Rattle.base.specs.Stored.{stored}
 use Rattle.fills.proofs.Bytes.{row-sound}
 use Rattle.fills.proofs.Draws.{Turning, turns-none, one-draw, turns-end}
@@ -11,7 +11,7 @@ use Rattle.philox_x8.proofs.Theorems.{eight-words}
 use Rattle.philox_x8.specs.Machine.{wordsOf, nextOf, drawn}
 use Rattle.philox_x8.specs.declared.Draw.{Draw}
 use borrow.Author.Needs.{needs}
-use mathlib.Core.Path.{refl, sym, ap, _∙_}
+use mathlib.Core.Path.{sym, ap, _∙_}
 use native.Mathlib.Omega.{arith}
 use Rattle.philox_fill_bytes.proofs.fill_draws.Statement.{statement}
 use Rattle.philox_fill_bytes.proofs.fill_draws.Tie as tie
