@@ -304,7 +304,7 @@ static void pair(const char *what, task *theirs, task *mine, long calls, int run
 }
 
 /* How deep the stack of our calls goes: each call of the C library, its fills and the typed ones of each kind, engine and length, on a
- * of its own that was painted. */
+ * stack of its own that was painted. */
 static runner painters[ENGINES][KINDS][SOURCES];
 static struct {
     int64_t (*xoshiro_new)(uint64_t, uint64_t, uint8_t *, size_t, uint64_t *), (*move)(uint8_t *, size_t, uint64_t, uint64_t *);
