@@ -15,7 +15,7 @@
 
 enum { RUST, TYPED, LIBRARY, SOURCES };
 enum { XOSHIRO, PHILOX, ENGINES };
-enum { KINDS = 6, MOST = 200000, LEVELS = 4, RUNS = 60 };
+enum { KINDS = 6, MOST = 200000, LEVELS = 4, RUNS = 200 };
 
 static const char *const engines[] = {"xoshiro", "philox"};
 static const char *const kinds[] = {"u64", "u32", "f32", "f64", "normal_f32", "normal_f64"};
