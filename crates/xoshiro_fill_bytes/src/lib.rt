@@ -7,11 +7,12 @@ ghost use Rattle.fills.specs.FillBytes.{FilledBytes};
 ghost use Rattle.fills.specs.Kinds.{u64s, u32s, f32s, f64s, normalF32s, normalF64s, kindAt};
 ghost use Rattle.xoshiro_x8.specs.Calls.{wordsOf, nextOf};
 
-// The number of a byte fill's refusal, or 0; its draws, and the generator after them.
+// The generator after a byte fill; the number of its refusal, or 0, and its draws. (In this order: four words that are moved at once are then
+// words of one row.)
 pub struct ByteFill {
+    pub rng: Xoshiro256ppX8,
     pub refusal: u64,
     pub draws: u64,
-    pub rng: Xoshiro256ppX8,
 }
 
 // The bytes of kind 1.
