@@ -3,18 +3,27 @@
 use mathlib.Core.Path.{_≡_, refl, sym, ap, _∙_}
 use mathlib.Core.List.{List, [], _∷_, _++_, map, append-nil, append-assoc}
 use Prim.Native.Nat.{ℕ, zero, suc, _+_, _*_, _/_, _%_, _^_, _<_, _≤_}
-use native.Mathlib.Nat.{zero-mul, suc-mul, mul-assoc, zero-add, not-suc-le-zero, le-of-suc-le-suc}
+use native.Mathlib.Nat.{div-lt-iff-lt-mul, pow-suc, zero-mul, suc-mul, mul-assoc, zero-add, not-suc-le-zero, le-of-suc-le-suc}
 use native.Mathlib.Numerals.{add-one}
 use native.Mathlib.Omega.{arith}
+use lib.Dec.{lit<}
 use lib.ListN.{length, getD, take, length-append, List·getD-append}
 use lib.Seq.{take-suc, take-length, length-take-le, getD-append-add}
 use Rattle.base.specs.Stored.{stored}
-use Rattle.base.specs.Bytes.{leBytes, flat}
+use Rattle.base.specs.Bytes.{leBytes, leNat, flat}
 use Rattle.base.proofs.Stored.{stored-two, length-stored}
 
 pub length-leBytes : (n x : ℕ) → length (leBytes n x) ≡ n
 length-leBytes zero x = refl
 length-leBytes (suc n) x = ap suc (length-leBytes n (x / 256))
+
+-- a number back from its bytes
+pub le-round : (n x : ℕ) → x < 256 ^ n → leNat (leBytes n x) ≡ x
+le-round zero x h = omega arith
+le-round (suc n) x h =
+    let h′ : x < 256 ^ n * 256 = rw pow-suc at h in
+    let q : x / 256 < 256 ^ n = div-lt-iff-lt-mul (lit< tt) .1 h′ in
+    ap (λ (k : ℕ). x % 256 + 256 * k) (le-round n (x / 256) q) ∙ omega arith
 
 -- the bytes of a word are those of its low half, then those of its high half
 byte-down : (k lo hi : ℕ) → ((lo + 256 * k * hi) / 256 ≡ lo / 256 + k * hi) × ((lo + 256 * k * hi) % 256 ≡ lo % 256)

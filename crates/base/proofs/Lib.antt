@@ -7,3 +7,6 @@ pub mod Xor
 pub mod Zip
 pub mod Stored
 pub mod Bytes
+pub mod Put
+pub mod Engine
+pub mod Refused

@@ -20,6 +20,10 @@ getD-table zero f i d h = absurd (not-suc-le-zero h)
 getD-table (suc n) f zero d h = refl
 getD-table (suc n) f (suc i) d h = getD-table n (λ j. f (suc j)) i d (le-of-suc-le-suc h)
 
+-- what stands in a list that is a table
+pub placed : {A : Type 0} (n : ℕ) (d : A) (f : ℕ → A) {l : List A} → l ≡ table n f → (i : ℕ) → i < n → getD l i d ≡ f i
+placed {A} n d f e i h = ap (λ (k : List A). getD k i d) e ∙ getD-table n f i d h
+
 pub table-same {ℓ} : {A : Type ℓ} (n : ℕ) (f g : ℕ → A) → ((i : ℕ) → i < n → f i ≡ g i) → table n f ≡ table n g
 unfolding table
 table-same zero f g h = refl

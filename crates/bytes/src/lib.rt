@@ -50,7 +50,7 @@ fn put8_n(out: &mut [u8], at: usize, v: [u8; 8], n: usize)
 fn put8(out: &mut [u8], at: usize, v: [u8; 8])
     ensures { λ _. ⌜ now (out .exit) ≡ stored (now (out .entry)) at v ⌝ }
 {
-    let n = groups::room(out.len(), at, 8);
+    let n = words::room(out.len(), at, 8);
     // eight stores that the compiler knows to be eight become one
     if n == 8 {
         put8_n(out, at, v, 8);
@@ -81,7 +81,7 @@ fn put_part(out: &mut [u8], at: usize, v: &[u8; 64])
     requires { ⌜ length (now v) ≡ 64 ⌝ }
     ensures { λ _. ⌜ now (out .exit) ≡ stored (now (out .entry)) at (now (v .entry)) ⌝ }
 {
-    let n = groups::room(out.len(), at, 64);
+    let n = words::room(out.len(), at, 64);
     for i in 0..n {
         out[at + i] = v[i];
     }
@@ -222,7 +222,7 @@ fn word_8(s: &[u8], at: usize) -> u64
 pub fn word_at(s: &[u8], at: usize) -> u64
     ensures { λ r. ⌜ r ≡ leNat (take 8 (drop at (now (s .entry)))) ⌝ }
 {
-    let n = groups::room(s.len(), at, 8);
+    let n = words::room(s.len(), at, 8);
     if n == 8 {
         word_8(s, at)
     } else {

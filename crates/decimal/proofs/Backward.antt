@@ -8,13 +8,13 @@ use lib.Dec.{leb}
 use lib.ListN.{length, set, length-append}
 use lib.Seq.{sets, set-comm}
 use borrow.Author.Tests.{lt-ltb, le-ltb, le-leb}
+use Rattle.base.proofs.Put.{put-length, put-then, given-yes, given-no}
+use Rattle.base.specs.Put.{Put, given}
 use Rattle.base.specs.Stored.{stored}
 use Rattle.decimal.specs.Decimal.{decimal, lastDigits, padded}
 use Rattle.decimal.specs.declared.Long.{Long}
-use Rattle.decimal.specs.Put.{Put, given}
 use Rattle.decimal.specs.Long.{valueOf, Is, fitting}
 use Rattle.decimal.proofs.Decimal.{length-last, length-padded, decimal-padded, decimal-split}
-use Rattle.decimal.proofs.Put.{put-length, put-then, given-yes, given-no}
 
 -- ---- bytes written from the last to the first
 front : {j at : ℕ} (l v : List ℕ) (b : ℕ) → j < at → set (sets l at v) j b ≡ sets (set l j b) at v

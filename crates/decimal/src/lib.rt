@@ -3,8 +3,8 @@ ghost use mathlib.Core.Path.{_≡_};
 ghost use Prim.Native.Nat.{_+_, _≤_};
 ghost use lib.Dec.{leb};
 ghost use lib.ListN.{length};
+ghost use Rattle.base.specs.Put.{Put, given};
 ghost use Rattle.decimal.specs.Decimal.{decimal, padded};
-ghost use Rattle.decimal.specs.Put.{Put, given};
 ghost use Rattle.decimal.specs.Long.{Is, valueOf, fitting};
 ghost use Rattle.decimal.specs.Number.{extends, numberAt};
 

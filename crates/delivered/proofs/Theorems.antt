@@ -4,6 +4,8 @@ use mathlib.Core.Path.{_≡_, sym, ap, _∙_}
 use Prim.Native.Nat.{ℕ, _+_, _*_}
 use native.Mathlib.Nat.{zero-div, mul-div-cancel}
 use borrow.Author.Tests.{eq-eqb, le-leb}
+use Rattle.base.proofs.Put.{put-counted}
+use Rattle.base.specs.Put.{given}
 use Rattle.base.specs.Bytes.{flat}
 use Rattle.base.specs.Iterate.{iterate}
 use Rattle.base.specs.Table.{table}
@@ -17,8 +19,6 @@ use Rattle.delivery.specs.Claims.{ByElements, ordered}
 use Rattle.delivery.specs.Delivery.{widthOf}
 use Rattle.delivery.proofs.Theorems.{as-they-are, two-orders, joined, delivered}
 use Rattle.lines.specs.Lines.{line, valueAt, linesOf, accepted}
-use Rattle.decimal.specs.Put.{given}
-use Rattle.decimal.proofs.Put.{put-counted}
 use Rattle.lines.proofs.Theorems.{lines-append}
 use Rattle.order.specs.Claims.{Accepted}
 use Rattle.order.specs.declared.Order.{Order}

@@ -4,11 +4,11 @@ use mathlib.Core.List.{List, _++_}
 use mathlib.Core.Path.{_≡_}
 use Prim.Native.Nat.{ℕ, _+_, _*_, _%_, _≤_}
 use lib.ListN.{length, take}
+use Rattle.base.specs.Put.{Put, given}
 use Rattle.base.specs.Iterate.{iterate}
 use Rattle.source.specs.Source.{nextOf, startOf}
 use Rattle.delivery.specs.Claims.{Step, Run, restOf, joinedBy, ordered, deliveryOf}
 use Rattle.delivery.specs.declared.Delivery.{Delivery}
-use Rattle.decimal.specs.Put.{Put, given}
 use Rattle.fills.specs.FillBytes.{elements, refusalOf}
 use Rattle.lines.specs.Lines.{linesOf, accepted}
 use Rattle.order.specs.Claims.{Accepted}

@@ -6,6 +6,7 @@ use native.Mathlib.Nat.{add-zero, zero-mul, mul-zero, add-mul, mul-add, mul-asso
 use native.Mathlib.Numerals.{add-one}
 use native.Mathlib.Omega.{arith}
 use lib.ListN.{length, getD}
+use Rattle.base.specs.Engine.{Engine, wordsFrom}
 use Rattle.base.specs.Bytes.{flat}
 use Rattle.base.specs.Iterate.{iterate}
 use Rattle.base.specs.Table.{table}
@@ -100,17 +101,17 @@ module _ (k : ℕ) where
         ap length (written n) ∙ flat-length (bytesOf K) (K .width) (wide K (row k .sound) (row k .wide)) (table n (element K W)) ∙ ap (λ (x : ℕ). x * K .width) (length-table n (element K W))
 
 -- ---- two fills
-module _ {G : Type 0} (words : G → List ℕ) (next : G → G) (g : G) (k n : ℕ) where
-  pub whole-then : (m : ℕ) → n % 16 ≡ 0 → OneFill words next g k n m
+module _ {G : Type 0} (E : Engine G) (g : G) (k n : ℕ) where
+  pub whole-then : (m : ℕ) → n % 16 ≡ 0 → OneFill E g k n m
   whole-then m h =
       let K = kindAt k .kind in
       let some = row k .sound .some in
       let t : ℕ = n / 16 * (16 / K .places) in
       let e : n ≡ t * K .places = sym (mul-assoc (n / 16) (16 / K .places) (K .places) ∙ ap (λ (x : ℕ). n / 16 * x) (whole-16 k) ∙ omega arith) in
       let b : bytesDraws k (n * widthOf k) ≡ K .draws * t = drawn k n ∙ ap (drawsFor K) e ∙ draws-whole K some t in
-      let W : ℕ → List ℕ = λ i. words (iterate next i g) in
-      let W′ : ℕ → List ℕ = λ i. words (iterate next i (iterate next (bytesDraws k (n * widthOf k)) g)) in
-      let same : (j : ℕ) → W (K .draws * t + j) ≡ W′ j = λ j. ap words (iterate-then next (K .draws * t) j g ∙ ap (λ (x : ℕ). iterate next j (iterate next x g)) (sym b)) in
+      let W : ℕ → List ℕ = wordsFrom E g in
+      let W′ : ℕ → List ℕ = λ i. wordsFrom E (iterate (E .next) (bytesDraws k (n * widthOf k)) g) i in
+      let same : (j : ℕ) → W (K .draws * t + j) ≡ W′ j = λ j. ap (E .words) (iterate-then (E .next) (K .draws * t) j g ∙ ap (λ (x : ℕ). iterate (E .next) j (iterate (E .next) x g)) (sym b)) in
       let e′ = sym e in
       let first = sym (written k W n) in
       let second = sym (written k W′ m) in
@@ -126,11 +127,11 @@ module _ {G : Type 0} (words : G → List ℕ) (next : G → G) (g : G) (k n : �
       }
 
   -- nothing after any number of places
-  pub then-none : OneFill words next g k n 0
+  pub then-none : OneFill E g k n 0
   then-none =
       let w = widthOf k in
-      let W : ℕ → List ℕ = λ i. words (iterate next i g) in
-      let W′ : ℕ → List ℕ = λ i. words (iterate next i (iterate next (bytesDraws k (n * w)) g)) in
+      let W : ℕ → List ℕ = wordsFrom E g in
+      let W′ : ℕ → List ℕ = λ i. wordsFrom E (iterate (E .next) (bytesDraws k (n * w)) g) i in
       let z = zero-mul w in
       record {
         bytes =

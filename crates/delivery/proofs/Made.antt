@@ -1,22 +1,24 @@
 -- A part made by a fill of the buffer's first bytes. Assumes nothing.
+use mathlib.Core.Bool.{Bool, true, false}
 use mathlib.Core.List.{List, [], _∷_, _++_}
 use mathlib.Core.Path.{_≡_, refl, sym, ap, _∙_}
 use Prim.Native.Nat.{ℕ, zero, suc, _-_, _*_, _<_, _≤_}
-use native.Mathlib.Decide.{decLe}
 use native.Mathlib.Nat.{zero-mul, suc-mul, mul-mod-left}
 use native.Mathlib.Omega.{arith}
 use lib.ListN.{length, take, drop}
 use lib.Seq.{length-take-le, length-front}
+use Rattle.base.specs.Engine.{wordsFrom}
 use Rattle.base.specs.Iterate.{iterate}
 use Rattle.fills.specs.FillBytes.{refusalOf, bytesWritten, bytesDraws, FilledBytes}
 use Rattle.fills.proofs.Sounds.{row}
-use Rattle.fills.proofs.Theorems.{refusals}
-use Rattle.source.specs.Source.{wordsOf, nextOf}
+use Rattle.fills.specs.Kinds.{isKind}
+use Rattle.kinds.proofs.Numbers.{accepted}
+use Rattle.source.specs.Source.{nextOf, either}
 use Rattle.source.specs.declared.Source.{Source}
-use Rattle.delivery.specs.Delivery.{widthOf, wordsFrom, placesOf, NextPart}
+use Rattle.delivery.specs.Delivery.{widthOf, placesOf, NextPart}
 use Rattle.delivery.specs.declared.Delivery.{Delivery}
 use Rattle.delivery.proofs.Joining.{none-drawn, none-written, length-written}
-use Rattle.delivery.proofs.Room.{fits, none-below, none-above}
+use Rattle.delivery.proofs.Room.{fits, no-kind}
 
 empty : (l : List ℕ) → length l ≡ 0 → l ≡ []
 empty [] e = refl
@@ -24,26 +26,25 @@ empty (x ∷ l) e = absurd (omega arith)
 
 -- a fill of bytes that is refused only where it has none
 module _ {k : ℕ} {s s′ : Source} {l after : List ℕ} (bytes : ℕ) (long : length l ≡ bytes) where
-  bytes-made : (refusal : ℕ) {draws : ℕ} → ((refusal ≡ 0 → ⊥) → bytes ≡ 0) → FilledBytes wordsOf nextOf k s l after refusal draws s′
-      → (after ≡ bytesWritten k (wordsFrom s) bytes) × (s′ ≡ iterate nextOf (bytesDraws k bytes) s)
-  bytes-made zero h F = (F .writes ∙ ap (bytesWritten k (wordsFrom s)) long, F .state ∙ ap (λ (n : ℕ). iterate nextOf n s) (F .count ∙ ap (bytesDraws k) long))
+  bytes-made : (refusal : ℕ) {draws : ℕ} → ((refusal ≡ 0 → ⊥) → bytes ≡ 0) → FilledBytes either k s l after refusal draws s′
+      → (after ≡ bytesWritten k (wordsFrom either s) bytes) × (s′ ≡ iterate nextOf (bytesDraws k bytes) s)
+  bytes-made zero h F = (F .writes ∙ ap (bytesWritten k (wordsFrom either s)) long, F .state ∙ ap (λ (n : ℕ). iterate nextOf n s) (F .count ∙ ap (bytesDraws k) long))
   bytes-made (suc r) h F =
       let z : bytes ≡ 0 = h (omega arith) in (
-        F .writes ∙ empty l (long ∙ z) ∙ sym (ap (bytesWritten k (wordsFrom s)) z ∙ none-written k (wordsFrom s)),
+        F .writes ∙ empty l (long ∙ z) ∙ sym (ap (bytesWritten k (wordsFrom either s)) z ∙ none-written k (wordsFrom either s)),
         F .state ∙ ap (λ (n : ℕ). iterate nextOf n s) (F .count ∙ sym (ap (bytesDraws k) z ∙ none-drawn k)),
       )
 
 -- n places of a part are refused only where there are none
 refused-none : (k left m : ℕ) → (refusalOf k (placesOf k left m * widthOf k) ≡ 0 → ⊥) → placesOf k left m ≡ 0
-refused-none k left m h = go (decLe 1 k) (decLe k 6)
+refused-none k left m h = go (isKind k) refl
   where
-    go : Dec (1 ≤ k) → Dec (k ≤ 6) → placesOf k left m ≡ 0
-    go (yes a) (yes b) = absurd (h (refusals k (placesOf k left m * widthOf k) .accepts a b (mul-mod-left (placesOf k left m) (widthOf k))))
-    go (yes a) (no b) = none-above k left m (omega arith)
-    go (no a) c = none-below k left m (omega arith)
+    go : (b : Bool) → b ≡ isKind k → placesOf k left m ≡ 0
+    go true e = absurd (h (sym (accepted k (placesOf k left m * widthOf k) e refl refl (mul-mod-left (placesOf k left m) (widthOf k)))))
+    go false e = no-kind k left m e refl
 
 pub part-made : {d : Delivery} {before after : List ℕ} {n w bytes refusal draws : ℕ} {s : Source} → n ≡ placesOf (d .kind) (d .left) (length before) → w ≡ widthOf (d .kind) → bytes ≡ n * w
-    → FilledBytes wordsOf nextOf (d .kind) (d .source) (take bytes before) after refusal draws s
+    → FilledBytes either (d .kind) (d .source) (take bytes before) after refusal draws s
     → NextPart d before (after ++ drop bytes before) bytes (record { source = s; kind = d .kind; left = d .left - n })
 part-made {d} {before} {after} {n} {w} {bytes} {refusal} {draws} {s} en ew eb F =
     let k : ℕ = d .kind in
@@ -54,7 +55,7 @@ part-made {d} {before} {after} {n} {w} {bytes} {refusal} {draws} {s} en ew eb F 
     let none : (refusal ≡ 0 → ⊥) → bytes ≡ 0 =
     λ h. count ∙ ap (λ (x : ℕ). x * widthOf k) (refused-none k (d .left) (length before) (λ e. h (F .refuses ∙ ap (refusalOf k) (long ∙ count) ∙ e))) ∙ zero-mul (widthOf k) in
     let made = bytes-made bytes long refusal none F in
-    let full : length after ≡ bytes = ap length (made .0 ∙ ap (bytesWritten k (wordsFrom (d .source))) count) ∙ length-written k (wordsFrom (d .source)) places ∙ sym count in
+    let full : length after ≡ bytes = ap length (made .0 ∙ ap (bytesWritten k (wordsFrom either (d .source))) count) ∙ length-written k (wordsFrom either (d .source)) places ∙ sym count in
     let same : length (after ++ drop bytes before) ≡ length before = length-front before after bytes (full ∙ sym long) in
     let inside : bytes ≤ length (after ++ drop bytes before) = omega (arith, same, count, f .room) in
     record {

@@ -4,10 +4,10 @@ use mathlib.Core.Path.{_≡_, refl, sym, ap, _∙_, subst}
 use Prim.Native.Nat.{ℕ, zero, suc, _+_, _-_, _*_, _/_, _%_, _<_, _≤_, min}
 use native.Mathlib.Nat.{mul-assoc, mul-comm, mul-le-mul-right, div-mul-le-self, lt-div-mul-add, zero-mul}
 use native.Mathlib.Omega.{arith}
-use borrow.Author.Tests.{leb-false, le-leb, lt-leb}
+use borrow.Author.Tests.{leb-false}
 use lib.Dec.{leb, lit≤}
-use lib.ListN.{getD}
-use Rattle.fills.specs.Kinds.{kinds, kindAt, of, u64s}
+use lib.ListN.{length, getD}
+use Rattle.fills.specs.Kinds.{kinds, kindAt, isKind, of, u64s}
 use Rattle.fills.proofs.Sounds.{row}
 use Rattle.delivery.specs.Delivery.{widthOf, placesOf}
 
@@ -51,11 +51,11 @@ pub record Fits (k left n p : ℕ) : Type 0 where
   pub few : p ≤ left
   pub room : p * widthOf k ≤ n
   pub whole : (p ≡ left → ⊥) → p % 16 ≡ 0
-  pub some : 1 ≤ k → k ≤ 6 → 128 ≤ n → 0 < left → 0 < p
+  pub some : 1 ≤ k → k ≤ length kinds → 128 ≤ n → 0 < left → 0 < p
 
 pub fits : (k left n : ℕ) → Fits k left n (placesOf k left n)
 unfolding placesOf
-fits k left n = go (leb 1 k) (leb k 6) refl refl
+fits k left n = go (leb 1 k) (leb k (length kinds)) refl refl
   where
     w : ℕ
     w = widthOf k
@@ -63,10 +63,10 @@ fits k left n = go (leb 1 k) (leb k 6) refl refl
     q : ℕ
     q = n / (16 * w)
 
-    none : ((1 ≤ k) → k ≤ 6 → ⊥) → Fits k left n 0
+    none : ((1 ≤ k) → k ≤ length kinds → ⊥) → Fits k left n 0
     none h = record { few = omega arith; room = omega (arith, zero-mul w); whole = λ x. refl; some = λ a b c d. absurd (h a b) }
 
-    go : (a b : Bool) → leb 1 k ≡ a → leb k 6 ≡ b → Fits k left n (cond (a && b) (min left (16 * q)) 0)
+    go : (a b : Bool) → leb 1 k ≡ a → leb k (length kinds) ≡ b → Fits k left n (cond (a && b) (min left (16 * q)) 0)
     go true true e f =
         let least : min left (16 * q) * w ≤ 16 * q * w = mul-le-mul-right w (omega arith) in
         record {
@@ -75,29 +75,26 @@ fits k left n = go (leb 1 k) (leb k 6) refl refl
           whole = λ h. omega arith;
           some = λ a b c d. omega (arith, room-some n w (row k .wide) (width-most k) c);
         }
-    go true false e f = none (λ a b. omega (arith, leb-false k 6 f))
+    go true false e f = none (λ a b. omega (arith, leb-false k (length kinds) f))
     go false b e f = none (λ a c. omega (arith, leb-false 1 k e))
 
 -- ---- by the tests that the code makes
+module _ (k left n : ℕ) {b : Bool} (e : b ≡ isKind k) where
+  pub no-kind : b ≡ false → placesOf k left n ≡ 0
+  unfolding placesOf
+  no-kind z = ap (λ (x : Bool). cond x (min left (16 * (n / (16 * widthOf k)))) 0) (sym e ∙ z)
+
+  in-table : b ≡ true → {w : ℕ} → w ≡ widthOf k → placesOf k left n ≡ min left (16 * (n / (16 * w)))
+  unfolding placesOf
+  in-table z {w} ew = ap (λ (x : Bool). cond x (min left (16 * (n / (16 * widthOf k)))) 0) (sym e ∙ z) ∙ ap (λ (x : ℕ). min left (16 * (n / (16 * x)))) (sym ew)
+
+  pub all-left : b ≡ true → {w : ℕ} → w ≡ widthOf k → left < 16 * (n / (16 * w)) → placesOf k left n ≡ left
+  all-left z ew h = in-table z ew ∙ omega arith
+
+  pub room-only : b ≡ true → {w : ℕ} → w ≡ widthOf k → 16 * (n / (16 * w)) ≤ left → placesOf k left n ≡ 16 * (n / (16 * w))
+  room-only z ew h = in-table z ew ∙ omega arith
+
 module _ (k left n : ℕ) where
-  pub none-below : k ≡ 0 → placesOf k left n ≡ 0
-  unfolding placesOf
-  none-below e = simp (lt-leb 1 k (omega arith))
-
-  pub none-above : 6 < k → placesOf k left n ≡ 0
-  unfolding placesOf
-  none-above h = simp (le-leb 1 k (omega arith), lt-leb k 6 h)
-
-  in-table : (k ≡ 0 → ⊥) → k ≤ 6 → {w : ℕ} → w ≡ widthOf k → placesOf k left n ≡ min left (16 * (n / (16 * w)))
-  unfolding placesOf
-  in-table h l {w} e = simp (le-leb 1 k (omega arith), le-leb k 6 l) (ap (λ (x : ℕ). min left (16 * (n / (16 * x)))) (sym e))
-
-  pub all-left : (k ≡ 0 → ⊥) → k ≤ 6 → {w : ℕ} → w ≡ widthOf k → left < 16 * (n / (16 * w)) → placesOf k left n ≡ left
-  all-left h l e b = in-table h l e ∙ omega arith
-
-  pub room-only : (k ≡ 0 → ⊥) → k ≤ 6 → {w : ℕ} → w ≡ widthOf k → 16 * (n / (16 * w)) ≤ left → placesOf k left n ≡ 16 * (n / (16 * w))
-  room-only h l e b = in-table h l e ∙ omega arith
-
   -- what `places` promises
   pub promised : {p : ℕ} → placesOf k left n ≡ p → (p ≡ placesOf k left n) × (p ≤ left) × (p * widthOf k ≤ n)
   promised {p} e = (sym e, subst (λ (x : ℕ). x ≤ left) e (fits k left n .few), subst (λ (x : ℕ). x * widthOf k ≤ n) e (fits k left n .room))

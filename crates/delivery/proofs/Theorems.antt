@@ -7,19 +7,20 @@ use native.Mathlib.Nat.{zero-mul, mul-mod-left}
 use native.Mathlib.Omega.{arith}
 use lib.ListN.{length, take, drop}
 use lib.Seq.{take-at}
+use Rattle.base.specs.Engine.{wordsFrom}
 use Rattle.base.specs.Iterate.{iterate}
 use Rattle.base.proofs.Iterate.{iterate-then}
 use Rattle.fills.specs.FillBytes.{bytesWritten, bytesDraws}
-use Rattle.source.specs.Source.{wordsOf, nextOf, startOf}
+use Rattle.source.specs.Source.{nextOf, startOf, either}
 use Rattle.source.specs.declared.Source.{Source}
-use Rattle.delivery.specs.Delivery.{widthOf, wordsFrom, placesOf, NextPart}
+use Rattle.delivery.specs.Delivery.{widthOf, placesOf, NextPart}
 use Rattle.delivery.specs.Claims.{OneFill, TwoFills, TwoOrders, ByElements, AsTheyAre, wholeOf, drawsOf, Joined, deliveryOf, Delivered}
 use Rattle.delivery.specs.declared.Delivery.{Delivery}
 use Rattle.delivery.proofs.Joining.{none-drawn, none-written, length-written, whole-then, then-none}
 use Rattle.delivery.proofs.Room.{fits}
 
 pub two-fills : TwoFills
-two-fills G words next g k n m h = whole-then words next g k n m h
+two-fills G E g k n m h = whole-then E g k n m h
 
 pub as-they-are : AsTheyAre
 as-they-are w = record { none = refl; both = λ a b h. refl }
@@ -33,9 +34,9 @@ two-orders f engine seed block first k n m B h =
     let s : Source = iterate nextOf first (startOf engine seed block) in
     let w : ℕ = widthOf k in
     let after = sym (iterate-then nextOf first (bytesDraws k (n * w)) (startOf engine seed block)) in
-    ap f (whole-then wordsOf nextOf s k n m h .bytes)
-    ∙ B .both (bytesWritten k (wordsFrom s) (n * w)) _ (whole-bytes k n (wordsFrom s))
-    ∙ ap (λ (x : Source). f (bytesWritten k (wordsFrom s) (n * w)) ++ f (bytesWritten k (wordsFrom x) (m * w))) after
+    ap f (whole-then either s k n m h .bytes)
+    ∙ B .both (bytesWritten k (wordsFrom either s) (n * w)) _ (whole-bytes k n (wordsFrom either s))
+    ∙ ap (λ (x : Source). f (bytesWritten k (wordsFrom either s) (n * w)) ++ f (bytesWritten k (wordsFrom either x) (m * w))) after
 
 -- ---- a delivery with nothing left
 module _ (d : Delivery) (e : d .left ≡ 0) where
@@ -43,7 +44,7 @@ module _ (d : Delivery) (e : d .left ≡ 0) where
   no-bytes = ap (λ (n : ℕ). n * widthOf (d .kind)) e ∙ zero-mul (widthOf (d .kind))
 
   nothing-whole : wholeOf d ≡ []
-  nothing-whole = ap (bytesWritten (d .kind) (wordsFrom (d .source))) no-bytes ∙ none-written (d .kind) (wordsFrom (d .source))
+  nothing-whole = ap (bytesWritten (d .kind) (wordsFrom either (d .source))) no-bytes ∙ none-written (d .kind) (wordsFrom either (d .source))
 
   nothing-drawn : d .source ≡ iterate nextOf (drawsOf d) (d .source)
   unfolding iterate
@@ -55,20 +56,20 @@ module _ {d rest : Delivery} {before after : List ℕ} {bytes : ℕ} (P : NextPa
   places = placesOf (d .kind) (d .left) (length before)
 
   -- the bytes that the part handed out
-  handed : take bytes after ≡ bytesWritten (d .kind) (wordsFrom (d .source)) (places * widthOf (d .kind))
+  handed : take bytes after ≡ bytesWritten (d .kind) (wordsFrom either (d .source)) (places * widthOf (d .kind))
   handed =
       let k : ℕ = d .kind in
-      let W = wordsFrom (d .source) in
+      let W = wordsFrom either (d .source) in
       let long : length (bytesWritten k W bytes) ≡ bytes = ap (λ (n : ℕ). length (bytesWritten k W n)) (P .count) ∙ length-written k W places ∙ sym (P .count) in
       ap (take bytes) (P .writes) ∙ take-at (bytesWritten k W bytes) (drop bytes before) bytes long ∙ ap (bytesWritten k W) (P .count)
 
   -- the fill of the part and that of the rest are the whole fill
-  parted : OneFill wordsOf nextOf (d .source) (d .kind) places (d .left - places)
+  parted : OneFill either (d .source) (d .kind) places (d .left - places)
   parted = go (ℕ-discrete places (d .left))
     where
-      go : Dec (places ≡ d .left) → OneFill wordsOf nextOf (d .source) (d .kind) places (d .left - places)
-      go (yes e) = subst (OneFill wordsOf nextOf (d .source) (d .kind) places) (omega arith) (then-none wordsOf nextOf (d .source) (d .kind) places)
-      go (no h) = whole-then wordsOf nextOf (d .source) (d .kind) places (d .left - places) (fits (d .kind) (d .left) (length before) .whole h)
+      go : Dec (places ≡ d .left) → OneFill either (d .source) (d .kind) places (d .left - places)
+      go (yes e) = subst (OneFill either (d .source) (d .kind) places) (omega arith) (then-none either (d .source) (d .kind) places)
+      go (no h) = whole-then either (d .source) (d .kind) places (d .left - places) (fits (d .kind) (d .left) (length before) .whole h)
 
   all-places : d .left ≡ places + (d .left - places)
   all-places = omega (arith, fits (d .kind) (d .left) (length before) .few)
@@ -79,12 +80,12 @@ module _ {d rest : Delivery} {before after : List ℕ} {bytes : ℕ} (P : NextPa
   whole-parts : wholeOf d ≡ take bytes after ++ wholeOf rest
   whole-parts =
       let k : ℕ = d .kind in
-      let W = wordsFrom (d .source) in
+      let W = wordsFrom either (d .source) in
       let m : ℕ = d .left - places in
       let first = sym handed in
       ap (λ (n : ℕ). bytesWritten k W (n * widthOf k)) all-places
       ∙ parted .bytes
-      ∙ (λ i. first i ++ bytesWritten k (wordsFrom (iterate nextOf (part-draws i) (d .source))) (m * widthOf k))
+      ∙ (λ i. first i ++ bytesWritten k (wordsFrom either (iterate nextOf (part-draws i) (d .source))) (m * widthOf k))
       ∙ ap (λ (x : Delivery). take bytes after ++ wholeOf x) (sym (P .remains))
 
   draws-parts : iterate nextOf (drawsOf d) (d .source) ≡ iterate nextOf (drawsOf rest) (rest .source)
@@ -98,7 +99,7 @@ module _ {d rest : Delivery} {before after : List ℕ} {bytes : ℕ} (P : NextPa
 
   -- the part holds whole elements
   whole-elements : length (take bytes after) % widthOf (d .kind) ≡ 0
-  whole-elements = ap (λ (l : List ℕ). length l % widthOf (d .kind)) handed ∙ whole-bytes (d .kind) places (wordsFrom (d .source))
+  whole-elements = ap (λ (l : List ℕ). length l % widthOf (d .kind)) handed ∙ whole-bytes (d .kind) places (wordsFrom either (d .source))
 
 pub joined : Joined
 joined f d [] B r e = (sym (ap f (nothing-whole d e) ∙ B .none), nothing-drawn d e)

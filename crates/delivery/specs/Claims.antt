@@ -3,22 +3,23 @@ use mathlib.Core.List.{List, [], _∷_, _++_}
 use mathlib.Core.Path.{_≡_}
 use Prim.Native.Nat.{ℕ, _+_, _*_, _%_}
 use lib.ListN.{length, take}
+use Rattle.base.specs.Engine.{Engine, wordsFrom}
 use Rattle.base.specs.Iterate.{iterate}
 use Rattle.fills.specs.FillBytes.{bytesWritten, bytesDraws}
-use Rattle.source.specs.Source.{nextOf, startOf}
-use Rattle.delivery.specs.Delivery.{widthOf, wordsFrom, NextPart}
+use Rattle.source.specs.Source.{nextOf, startOf, either}
+use Rattle.delivery.specs.Delivery.{widthOf, NextPart}
 use Rattle.delivery.specs.declared.Delivery.{Delivery}
 use Rattle.delivery.specs.declared.Part.{Part}
 
 -- ---- two fills, the second from the generator after the first, are one: their bytes joined, and their draws added up
-pub record OneFill {G : Type 0} (words : G → List ℕ) (next : G → G) (g : G) (k n m : ℕ) : Type 0 where
-  pub bytes : bytesWritten k (λ i. words (iterate next i g)) ((n + m) * widthOf k)
-      ≡ bytesWritten k (λ i. words (iterate next i g)) (n * widthOf k) ++ bytesWritten k (λ i. words (iterate next i (iterate next (bytesDraws k (n * widthOf k)) g))) (m * widthOf k)
+pub record OneFill {G : Type 0} (E : Engine G) (g : G) (k n m : ℕ) : Type 0 where
+  pub bytes : bytesWritten k (wordsFrom E g) ((n + m) * widthOf k)
+      ≡ bytesWritten k (wordsFrom E g) (n * widthOf k) ++ bytesWritten k (wordsFrom E (iterate (E .next) (bytesDraws k (n * widthOf k)) g)) (m * widthOf k)
   pub draws : bytesDraws k ((n + m) * widthOf k) ≡ bytesDraws k (n * widthOf k) + bytesDraws k (m * widthOf k)
 
 -- on any engine, where the first has a multiple of 16 places
 abbrev pub TwoFills : Type 1
-TwoFills = (G : Type 0) (words : G → List ℕ) (next : G → G) (g : G) (k n m : ℕ) → n % 16 ≡ 0 → OneFill words next g k n m
+TwoFills = (G : Type 0) (E : Engine G) (g : G) (k n m : ℕ) → n % 16 ≡ 0 → OneFill E g k n m
 
 -- ---- how bytes are written out
 -- f writes elements of w bytes one after another, each for itself: as a line of text, say
@@ -32,7 +33,7 @@ AsTheyAre = (w : ℕ) → ByElements w (λ l. l)
 
 -- ---- the bytes of an order: n places of kind k from draw `first` on of an engine's seed and block
 abbrev pub ordered : ℕ → ℕ → ℕ → ℕ → ℕ → ℕ → List ℕ
-ordered engine seed block first k n = bytesWritten k (wordsFrom (iterate nextOf first (startOf engine seed block))) (n * widthOf k)
+ordered engine seed block first k n = bytesWritten k (wordsFrom either (iterate nextOf first (startOf engine seed block))) (n * widthOf k)
 
 -- an order of n places, n a multiple of 16, and one of m places that begins where its draws end, written one after the other, are what an
 -- order of n + m places writes
@@ -64,7 +65,7 @@ joinedBy f (s ∷ steps) = f (take (s .part .bytes) (s .after)) ++ joinedBy f st
 
 -- the bytes of the fill of all places of a delivery, and its draws
 abbrev pub wholeOf : Delivery → List ℕ
-wholeOf d = bytesWritten (d .kind) (wordsFrom (d .source)) (d .left * widthOf (d .kind))
+wholeOf d = bytesWritten (d .kind) (wordsFrom either (d .source)) (d .left * widthOf (d .kind))
 
 abbrev pub drawsOf : Delivery → ℕ
 drawsOf d = bytesDraws (d .kind) (d .left * widthOf (d .kind))

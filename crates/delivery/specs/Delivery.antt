@@ -1,35 +1,30 @@
 -- One fill delivered part by part: what the next part holds, and what is left after it.
-use mathlib.Core.Bool.{cond, _&&_}
+use mathlib.Core.Bool.{cond}
 use mathlib.Core.List.{List, _++_}
 use mathlib.Core.Path.{_≡_}
 use Prim.Native.Nat.{ℕ, _-_, _*_, _/_, _<_, _≤_, min}
-use lib.Dec.{leb}
 use lib.ListN.{length, take, drop}
+use Rattle.base.specs.Engine.{wordsFrom}
 use Rattle.base.specs.Iterate.{iterate}
 use Rattle.fills.specs.FillBytes.{bytesWritten, bytesDraws}
-use Rattle.fills.specs.Kinds.{kinds, kindAt}
-use Rattle.source.specs.Source.{wordsOf, nextOf}
-use Rattle.source.specs.declared.Source.{Source}
+use Rattle.fills.specs.Kinds.{kinds, kindAt, isKind}
+use Rattle.source.specs.Source.{nextOf, either}
 use Rattle.delivery.specs.declared.Delivery.{Delivery}
 
 -- the bytes of an element of kind k
 abbrev pub widthOf : ℕ → ℕ
 widthOf k = kindAt k .kind .width
 
--- the words of draw m of a source
-abbrev pub wordsFrom : Source → ℕ → List ℕ
-wordsFrom s m = wordsOf (iterate nextOf m s)
-
 -- the places of a part in a buffer of n bytes, where `left` are left: all of them, or as many times 16 as there is room for, so that the
 -- part ends where a group ends, whatever the kind. None where no row of the table is k.
 unfoldable pub placesOf : ℕ → ℕ → ℕ → ℕ
-placesOf k left n = cond (leb 1 k && leb k (length kinds)) (min left (16 * (n / (16 * widthOf k)))) 0
+placesOf k left n = cond (isKind k) (min left (16 * (n / (16 * widthOf k)))) 0
 
 -- A part of the delivery d: the buffer was `before` and is `after`, and `bytes` and `rest` were handed back. The part stands at the buffer's
 -- start, the bytes behind it are as they were, and the rest begins where the part's draws end.
 pub record NextPart (d : Delivery) (before after : List ℕ) (bytes : ℕ) (rest : Delivery) : Type 0 where
   pub count : bytes ≡ placesOf (d .kind) (d .left) (length before) * widthOf (d .kind)
-  pub writes : after ≡ bytesWritten (d .kind) (wordsFrom (d .source)) bytes ++ drop bytes before
+  pub writes : after ≡ bytesWritten (d .kind) (wordsFrom either (d .source)) bytes ++ drop bytes before
   pub remains : rest ≡ record {
     source = iterate nextOf (bytesDraws (d .kind) bytes) (d .source);
     kind = d .kind;
@@ -40,4 +35,4 @@ pub record NextPart (d : Delivery) (before after : List ℕ) (bytes : ℕ) (rest
   pub inside : bytes ≤ length after
   pub long : bytes ≡ length (take bytes after)
   pub lessens : 0 < bytes → rest .left < d .left
-  pub some : 1 ≤ d .kind → d .kind ≤ 6 → 128 ≤ length before → 0 < d .left → 0 < bytes
+  pub some : 1 ≤ d .kind → d .kind ≤ length kinds → 128 ≤ length before → 0 < d .left → 0 < bytes

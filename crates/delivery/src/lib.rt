@@ -21,21 +21,18 @@ pub struct Part {
 fn places(kind: u64, left: u64, len: usize) -> usize
     ensures { λ r. ⌜ (r ≡ placesOf kind left len) × (r ≤ left) × (r * widthOf kind ≤ len) ⌝ }
 {
-    if kind == 0 {
-        return 0;
+    if kinds::is_kind(kind) {
+        let room = 16 * (len / (16 * kinds::width(kind)));
+        if left < room as u64 {
+            return left as usize;
+        }
+        return room;
     }
-    if kind > 6 {
-        return 0;
-    }
-    let room = 16 * (len / (16 * kinds::width(kind)));
-    if left < room as u64 {
-        return left as usize;
-    }
-    room
+    0
 }
 
 // The next part of a delivery, at the start of `out`: as many places as are left, or as many times 16 as `out` has room for. The bytes behind
-// it stay. Nothing is written where the kind is outside 1 to 6.
+// it stay. Nothing is written where the kind is outside the table.
 pub fn next_part(d: Delivery, out: &mut [u8]) -> Part
     ensures { λ r. ⌜ NextPart d (now (out .entry)) (now (out .exit)) (r .bytes) (r .rest) ⌝ }
 {

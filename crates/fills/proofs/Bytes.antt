@@ -11,6 +11,8 @@ use lib.Arith.{mod-mul}
 use lib.Dec.{eqb, leb}
 use lib.ListN.{length, getD}
 use lib.Seq.{ext-getD}
+use Rattle.base.specs.Engine.{Engine, wordsFrom}
+use Rattle.base.proofs.Engine.{EachEight}
 use Rattle.base.specs.Bytes.{flat}
 use Rattle.base.specs.Iterate.{iterate}
 use Rattle.base.specs.Table.{table}
@@ -20,7 +22,7 @@ use Rattle.fills.specs.Fill.{Kind, element, drawsFor, Filled}
 use Rattle.fills.specs.FillBytes.{bytesOf, refusalOf, elements, bytesWritten, bytesDraws, FilledBytes}
 use Rattle.fills.specs.Buffer.{bytesKind}
 use Rattle.fills.specs.Kinds.{kinds, kindAt}
-use Rattle.fills.proofs.Filling.{Sound, Eights}
+use Rattle.fills.proofs.Filling.{Sound}
 use Rattle.fills.proofs.Sounds.{row}
 
 round-le : (n W w t : ℕ) → 0 < w → t * W ≤ n + (W - 1) → t * (W * w) ≤ n * w + (W * w - 1)
@@ -108,28 +110,28 @@ whole k n e = go (leb 1 k && leb k (length kinds)) (eqb (n % kindAt k .kind .wid
     go true false e r = absurd (omega arith)
     go false b e r = absurd (omega arith)
 
-module _ {G : Type 0} {words : G → List ℕ} {next : G → G} where
+module _ {G : Type 0} {E : Engine G} where
   -- an accepted call fills with the kind of bytes
-  pub accepted-bytes : {k : ℕ} {g g′ : G} {before after : List ℕ} {refusal draws : ℕ} → Eights words → refusal ≡ refusalOf k (length before) → refusal ≡ 0
-      → Filled words next (bytesKind (kindAt k .kind)) g before after draws g′ → FilledBytes words next k g before after 0 draws g′
+  pub accepted-bytes : {k : ℕ} {g g′ : G} {before after : List ℕ} {refusal draws : ℕ} → EachEight E → refusal ≡ refusalOf k (length before) → refusal ≡ 0
+      → Filled E (bytesKind (kindAt k .kind)) g before after draws g′ → FilledBytes E k g before after 0 draws g′
   unfolding bytesWritten bytesDraws
   accepted-bytes {k} {g} {g′} {before} {after} {refusal} {draws} eights e z F =
       let K = kindAt k .kind in
       let n : ℕ = elements k (length before) in
       let p : n * K .width ≡ length before = whole k (length before) (sym e ∙ z) in
-      let W : ℕ → List ℕ = λ m. words (iterate next m g) in
+      let W : ℕ → List ℕ = wordsFrom E g in
       record {
         refuses = sym z ∙ e;
-        writes = F .writes ∙ ap (λ (m : ℕ). table m (element (bytesKind K) W)) (sym p) ∙ bytes-written K (row k .sound) (row k .wide) W (λ m. eights (iterate next m g)) n;
+        writes = F .writes ∙ ap (λ (m : ℕ). table m (element (bytesKind K) W)) (sym p) ∙ bytes-written K (row k .sound) (row k .wide) W (λ m. eights (iterate (E .next) m g)) n;
         count = F .count ∙ ap (drawsFor (bytesKind K)) (sym p) ∙ bytes-draws K (row k .sound) (row k .wide) n;
         state = F .state;
       }
 
   -- a refused call changes nothing
-  refused : (k : ℕ) (g : G) (before : List ℕ) (refusal : ℕ) → refusal ≡ refusalOf k (length before) → (refusal ≡ 0 → ⊥) → FilledBytes words next k g before before refusal 0 g
+  refused : (k : ℕ) (g : G) (before : List ℕ) (refusal : ℕ) → refusal ≡ refusalOf k (length before) → (refusal ≡ 0 → ⊥) → FilledBytes E k g before before refusal 0 g
   unfolding iterate
   refused k g before zero e h = absurd (h refl)
   refused k g before (suc n) e h = record { refuses = e; writes = refl; count = refl; state = refl }
 
-  pub refused-bytes : {k : ℕ} {g : G} {before : List ℕ} {refusal : ℕ} → refusal ≡ refusalOf k (length before) → (refusal ≡ 0 → ⊥) → FilledBytes words next k g before before refusal 0 g
+  pub refused-bytes : {k : ℕ} {g : G} {before : List ℕ} {refusal : ℕ} → refusal ≡ refusalOf k (length before) → (refusal ≡ 0 → ⊥) → FilledBytes E k g before before refusal 0 g
   refused-bytes {k} {g} {before} {refusal} e h = refused k g before refusal e h

@@ -5,7 +5,6 @@ pub mod Draws
 pub mod Buffered
 pub mod Runs
 pub mod Ahead
-pub mod Held
 pub mod Sounds
 pub mod Rounding
 pub mod Bytes

@@ -6,10 +6,11 @@ use native.Mathlib.Nat.{add-zero, add-suc, add-mul, mul-add}
 use native.Mathlib.Omega.{arith}
 use lib.ListN.{length, getD, drop}
 use lib.Seq.{getD-drop}
+use Rattle.base.specs.Engine.{drawOf}
 use Rattle.base.specs.Stored.{stored}
 use Rattle.base.proofs.Stored.{length-stored}
 use Rattle.base.proofs.Table.{table-same}
-use Rattle.fills.specs.Buffer.{drawOf, storedGroups}
+use Rattle.fills.specs.Buffer.{storedGroups}
 use Rattle.fills.specs.Fill.{Kind}
 use Rattle.fills.proofs.Buffered.{Grouping}
 

@@ -10,6 +10,7 @@ use lib.Dec.{leb, eqb}
 use lib.Ieee.{Float, Format, binary32, binary64}
 use lib.ListN.{length, getD, length-map, List·getD-append}
 use lib.Seq.{getD-append-add}
+use Rattle.base.specs.Engine.{wordsFrom}
 use Rattle.base.specs.Bytes.{flat}
 use Rattle.base.specs.Iterate.{iterate}
 use Rattle.base.specs.Table.{table}
@@ -172,12 +173,12 @@ refusals k n =
 -- ---- bytes and elements
 pub bytes-of-the-fill : BytesOfTheFill
 unfolding bytesWritten bytesDraws
-bytes-of-the-fill G words next k g gᵇ gᵗ before after old new dᵇ dᵗ B T long =
+bytes-of-the-fill G E k g gᵇ gᵗ before after old new dᵇ dᵗ B T long =
     let K = kindAt k .kind in
     let n : elements k (length before) ≡ length old = div-eq-of-eq-mul-left (row k .wide) long in
-    let W : ℕ → List ℕ = λ m. words (iterate next m g) in
+    let W : ℕ → List ℕ = wordsFrom E g in
     let draws : dᵇ ≡ dᵗ = B .count ∙ ap (drawsFor K) n ∙ sym (T .count) in (
       B .writes ∙ ap (λ (m : ℕ). flat (bytesOf K) (table m (element K W))) n ∙ ap (flat (bytesOf K)) (sym (T .writes)),
       draws,
-      B .state ∙ ap (λ (m : ℕ). iterate next m g) draws ∙ sym (T .state),
+      B .state ∙ ap (λ (m : ℕ). iterate (E .next) m g) draws ∙ sym (T .state),
     )

@@ -5,11 +5,12 @@ use mathlib.Core.Path.{_≡_}
 use Prim.Native.Nat.{ℕ, _+_, _-_, _*_, _/_, _%_, _^_, _<_, _≤_}
 use lib.Ieee.{Float, binary32, binary64}
 use lib.ListN.{length, getD}
+use Rattle.base.specs.Engine.{Engine}
 use Rattle.base.specs.Bytes.{flat}
 use Rattle.units.specs.Unit.{unit, oneMinusUnit}
 use Rattle.math.specs.BoxMuller.{cosHalf, sinHalf}
 use Rattle.fills.specs.Fill.{roundUp, drawsFor, element, Filled}
-use Rattle.fills.specs.Kinds.{u64s, u32s, f32s, f64s, normalF32s, normalF64s, kindAt}
+use Rattle.fills.specs.Kinds.{u64s, u32s, f32s, f64s, normalF32s, normalF64s, kinds, kindAt}
 use Rattle.fills.specs.FillBytes.{bytesOf, refusalOf, FilledBytes}
 
 -- ---- the table, row by row: element k, where each draw has eight words
@@ -75,13 +76,13 @@ pub record Columns (n : ℕ) : Type 0 where
 abbrev pub DrawsAndWidths : Type 0
 DrawsAndWidths = (n : ℕ) → Columns n
 
--- ---- the refusals of a byte fill: none exactly when the kind is 1 to 6 and the length a multiple of its width; 4 comes before 5
+-- ---- the refusals of a byte fill: none exactly when the kind is a row of the table, counted from 1, and the length a multiple of its width; 4 comes before 5
 pub record Judged (k n : ℕ) : Type 0 where
-  pub accepted : refusalOf k n ≡ 0 → (1 ≤ k) × (k ≤ 6) × (n % kindAt k .kind .width ≡ 0)
-  pub accepts : 1 ≤ k → k ≤ 6 → n % kindAt k .kind .width ≡ 0 → refusalOf k n ≡ 0
+  pub accepted : refusalOf k n ≡ 0 → (1 ≤ k) × (k ≤ length kinds) × (n % kindAt k .kind .width ≡ 0)
+  pub accepts : 1 ≤ k → k ≤ length kinds → n % kindAt k .kind .width ≡ 0 → refusalOf k n ≡ 0
   pub below : k < 1 → refusalOf k n ≡ 4
-  pub above : 6 < k → refusalOf k n ≡ 4
-  pub length : 1 ≤ k → k ≤ 6 → (n % kindAt k .kind .width ≡ 0 → ⊥) → refusalOf k n ≡ 5
+  pub above : length kinds < k → refusalOf k n ≡ 4
+  pub length : 1 ≤ k → k ≤ length kinds → (n % kindAt k .kind .width ≡ 0 → ⊥) → refusalOf k n ≡ 5
 
 abbrev pub Refusals : Type 0
 Refusals = (k n : ℕ) → Judged k n
@@ -90,6 +91,6 @@ Refusals = (k n : ℕ) → Judged k n
 -- for every kind of the table and every engine
 abbrev pub BytesOfTheFill : Type 1
 BytesOfTheFill =
-    (G : Type 0) (words : G → List ℕ) (next : G → G) (k : ℕ) (g gᵇ gᵗ : G) (before after : List ℕ) (old new : List (kindAt k .Element)) (dᵇ dᵗ : ℕ)
-    → FilledBytes words next k g before after 0 dᵇ gᵇ → Filled words next (kindAt k .kind) g old new dᵗ gᵗ → length before ≡ length old * kindAt k .kind .width
+    (G : Type 0) (E : Engine G) (k : ℕ) (g gᵇ gᵗ : G) (before after : List ℕ) (old new : List (kindAt k .Element)) (dᵇ dᵗ : ℕ)
+    → FilledBytes E k g before after 0 dᵇ gᵇ → Filled E (kindAt k .kind) g old new dᵗ gᵗ → length before ≡ length old * kindAt k .kind .width
     → (after ≡ flat (bytesOf (kindAt k .kind)) new) × (dᵇ ≡ dᵗ) × (gᵇ ≡ gᵗ)

@@ -1,9 +1,9 @@
 -- What a fill of any kind promises, on any engine (Rng8 of the Rust's lib.rs; the scope document, "Unit floats and fills").
--- An engine is two functions of its generator: the eight words that a draw hands out, and the generator after it.
 use mathlib.Core.List.{List}
 use mathlib.Core.Path.{_≡_}
 use Prim.Native.Nat.{ℕ, _+_, _-_, _*_, _/_, _%_}
 use lib.ListN.{length, getD}
+use Rattle.base.specs.Engine.{Engine, wordsFrom}
 use Rattle.base.specs.Iterate.{iterate}
 use Rattle.base.specs.Table.{table}
 
@@ -31,7 +31,7 @@ element K words k = getD (K .group (λ m. words (K .draws * (k / K .places) + m)
 
 -- A fill that was handed the generator g and the slice `before`, and left the slice `after` and handed back `draws` and g′: each place
 -- holds its element, the draws are the table's, and the generator is that many draws on.
-pub record Filled {G A : Type 0} (words : G → List ℕ) (next : G → G) (K : Kind A) (g : G) (before after : List A) (draws : ℕ) (g′ : G) : Type 0 where
-  pub writes : after ≡ table (length before) (element K (λ m. words (iterate next m g)))
+pub record Filled {G A : Type 0} (E : Engine G) (K : Kind A) (g : G) (before after : List A) (draws : ℕ) (g′ : G) : Type 0 where
+  pub writes : after ≡ table (length before) (element K (wordsFrom E g))
   pub count : draws ≡ drawsFor K (length before)
-  pub state : g′ ≡ iterate next draws g
+  pub state : g′ ≡ iterate (E .next) draws g

@@ -1,16 +1,18 @@
 -- A fill of bytes: the little-endian bytes of the fill of a kind, or a refusal that changes nothing (the scope document, "What the calls
 -- refuse", 4 and 5).
-use mathlib.Core.Bool.{cond, _&&_}
+use mathlib.Core.Bool.{cond}
 use mathlib.Core.List.{List}
 use mathlib.Core.Path.{_≡_}
-use Prim.Native.Nat.{ℕ, zero, suc, _/_, _%_}
-use lib.Dec.{eqb, leb}
+use Prim.Native.Nat.{ℕ, _/_, _%_}
+use lib.Dec.{eqb}
 use lib.ListN.{length}
+use Rattle.base.specs.Refused.{unless}
+use Rattle.base.specs.Engine.{Engine, wordsFrom}
 use Rattle.base.specs.Bytes.{leBytes, flat}
 use Rattle.base.specs.Iterate.{iterate}
 use Rattle.base.specs.Table.{table}
 use Rattle.fills.specs.Fill.{Kind, drawsFor, element}
-use Rattle.fills.specs.Kinds.{kinds, kindAt}
+use Rattle.fills.specs.Kinds.{kindAt, isKind}
 
 -- the bytes of an element, and of elements one after another
 abbrev pub bytesOf : {A : Type 0} → Kind A → A → List ℕ
@@ -18,7 +20,7 @@ bytesOf K x = leBytes (K .width) (K .bits x)
 
 -- the number of the refusal of kind k for n bytes, 0 if there is none: 4 if no row of the table is k, 5 if n isn't a multiple of the width
 unfoldable pub refusalOf : ℕ → ℕ → ℕ
-refusalOf k n = cond (leb 1 k && leb k (length kinds)) (cond (eqb (n % kindAt k .kind .width) 0) 0 5) 4
+refusalOf k n = cond (isKind k) (cond (eqb (n % kindAt k .kind .width) 0) 0 5) 4
 
 -- the elements that n bytes hold; their bytes, and their draws
 abbrev pub elements : ℕ → ℕ → ℕ
@@ -30,15 +32,10 @@ bytesWritten k words n = flat (bytesOf (kindAt k .kind)) (table (elements k n) (
 unfoldable pub bytesDraws : ℕ → ℕ → ℕ
 bytesDraws k n = drawsFor (kindAt k .kind) (elements k n)
 
--- a if the refusal is none, b if it is one
-abbrev pub unless : {A : Type 0} → ℕ → A → A → A
-unless zero a b = a
-unless (suc n) a b = b
-
 -- A fill of bytes by the number k of a kind: where it isn't refused, the slice holds the bytes of the typed fill and the draws are that
 -- fill's; where it is, the slice is as it was and there are no draws, so that the generator is as it was.
-pub record FilledBytes {G : Type 0} (words : G → List ℕ) (next : G → G) (k : ℕ) (g : G) (before after : List ℕ) (refusal draws : ℕ) (g′ : G) : Type 0 where
+pub record FilledBytes {G : Type 0} (E : Engine G) (k : ℕ) (g : G) (before after : List ℕ) (refusal draws : ℕ) (g′ : G) : Type 0 where
   pub refuses : refusal ≡ refusalOf k (length before)
-  pub writes : after ≡ unless refusal (bytesWritten k (λ m. words (iterate next m g)) (length before)) before
+  pub writes : after ≡ unless refusal (bytesWritten k (wordsFrom E g) (length before)) before
   pub count : draws ≡ unless refusal (bytesDraws k (length before)) 0
-  pub state : g′ ≡ iterate next draws g
+  pub state : g′ ≡ iterate (E .next) draws g

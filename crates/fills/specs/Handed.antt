@@ -4,9 +4,10 @@ use mathlib.Core.List.{List}
 use mathlib.Core.Path.{_≡_}
 use Prim.Native.Nat.{ℕ}
 use lib.ListN.{length}
+use Rattle.base.specs.Refused.{unless}
 use Rattle.base.specs.Table.{table}
 use Rattle.fills.specs.Fill.{Kind, drawsFor, element}
-use Rattle.fills.specs.FillBytes.{refusalOf, bytesWritten, bytesDraws, unless}
+use Rattle.fills.specs.FillBytes.{refusalOf, bytesWritten, bytesDraws}
 
 -- a typed fill: the table's draws, and the table's function of the words in each place
 pub record RightFill {A : Type 0} (W : ℕ → List ℕ) (K : Kind A) (before after : List A) (draws : ℕ) : Type 0 where

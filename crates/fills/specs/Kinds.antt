@@ -1,7 +1,9 @@
 -- The table of kinds (the scope document, "Unit floats and fills"). A new kind is a new row.
+use mathlib.Core.Bool.{Bool, _&&_}
 use mathlib.Core.List.{List, [], _∷_, _++_, map}
 use Prim.Native.Nat.{ℕ, _-_, _/_, _%_, _^_}
-use lib.ListN.{getD}
+use lib.Dec.{leb}
+use lib.ListN.{length, getD}
 use lib.Ieee.{Float, Format, binary32, binary64, toBits}
 use Rattle.base.specs.Zip.{zipWith}
 use Rattle.floats.specs.Numbers as numbers
@@ -57,6 +59,10 @@ of {A} K = record { Element = A; kind = K }
 
 abbrev pub kinds : List AnyKind
 kinds = of u64s ∷ of u32s ∷ of f32s ∷ of f64s ∷ of normalF32s ∷ of normalF64s ∷ []
+
+-- whether k is the number of a kind
+abbrev pub isKind : ℕ → Bool
+isKind k = leb 1 k && leb k (length kinds)
 
 unfoldable pub kindAt : ℕ → AnyKind
 kindAt k = getD kinds (k - 1) (of u64s)

@@ -29,7 +29,7 @@ from-lanes lanes = go (every isValid lanes)
     go true = omega arith
     go false = omega arith
 
-pub xoshiro-sound : Sound xoshiro.engine 256
+pub xoshiro-sound : Sound xoshiro.forms 256
 unfolding loaded
 xoshiro-sound = record { few = λ s. few (eqb (length s) 256) s; sized = λ s. sized (eqb (length s) 256) s }
   where
@@ -50,7 +50,7 @@ of-form f = go (isForm (markIn f) (waitingIn f))
     go true = omega arith
     go false = omega arith
 
-pub philox-sound : Sound philox.engine 96
+pub philox-sound : Sound philox.forms 96
 unfolding philox-form.loaded
 philox-sound = record { few = λ s. few (eqb (length s) 96) s; sized = λ s. sized (eqb (length s) 96) s }
   where

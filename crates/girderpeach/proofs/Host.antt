@@ -8,21 +8,16 @@ use borrow.Author.Tests.{eq-eqb, ne-eqb}
 use lib.Dec.{eqb}
 use lib.IntN.{ℤ}
 use lib.ListN.{length}
+use Rattle.base.specs.Engine.{Engine, wordsFrom}
+use Rattle.base.proofs.Refused.{unless-none, unless-some}
+use Rattle.base.specs.Refused.{unless}
 use Rattle.base.specs.Iterate.{iterate}
-use Rattle.fills.specs.FillBytes.{refusalOf, bytesWritten, bytesDraws, unless, FilledBytes}
+use Rattle.fills.specs.FillBytes.{refusalOf, bytesWritten, bytesDraws, FilledBytes}
 use Rattle.saved.specs.Saved.{Saved, lengthRefusal}
-use Rattle.girderpeach.specs.Host.{answerOf, firstOf, Called, Engine, fillRefusal, HostFill}
+use Rattle.girderpeach.specs.Host.{answerOf, firstOf, Called, Forms, fillRefusal, HostFill}
 use Rattle.girderpeach.proofs.Draws.{few-draws, few-kind-refusals}
 
 -- ---- by the refusal
-pub unless-none : {A : Type 0} (r : ℕ) → r ≡ 0 → (a b : A) → unless r a b ≡ a
-unless-none zero e a b = refl
-unless-none (suc r) e a b = absurd (omega arith)
-
-pub unless-some : {A : Type 0} (r : ℕ) → (r ≡ 0 → ⊥) → (a b : A) → unless r a b ≡ b
-unless-some zero h a b = absurd (h refl)
-unless-some (suc r) h a b = refl
-
 first-none : (a b : ℕ) → a ≡ 0 → firstOf a b ≡ b
 first-none zero b e = refl
 first-none (suc a) b e = absurd (omega arith)
@@ -75,15 +70,15 @@ module _ {n : ℕ} {new form form′ : List ℕ} {r : ℕ} (S : Saved n new form
       record { answers = q ∙ ap (λ (x : ℕ). answerOf x 0) (S .refuses); saves = S .writes ∙ ap₂ (λ (x : ℕ) (l : List ℕ). unless x l form) (S .refuses) e }
 
 -- ---- a fill. An engine's forms are refused with 1 to 3, and an accepted form has its length
-pub record Sound {G : Type 0} (E : Engine G) (n : ℕ) : Type 0 where
-  pub few : (s : List ℕ) → E .refusal s ≤ 3
-  pub sized : (s : List ℕ) → E .refusal s ≡ 0 → lengthRefusal n s ≡ 0
+pub record Sound {G : Type 0} (H : Forms G) (n : ℕ) : Type 0 where
+  pub few : (s : List ℕ) → H .refusal s ≤ 3
+  pub sized : (s : List ℕ) → H .refusal s ≡ 0 → lengthRefusal n s ≡ 0
 
-pub few-form : {G : Type 0} {E : Engine G} {n : ℕ} → Sound E n → (s : List ℕ) {r : ℕ} → r ≡ E .refusal s → r ≤ 5
+pub few-form : {G : Type 0} {H : Forms G} {n : ℕ} → Sound H n → (s : List ℕ) {r : ℕ} → r ≡ H .refusal s → r ≤ 5
 few-form S s e = omega (arith, S .few s)
 
 -- what a fill of bytes answers fits
-module _ {G : Type 0} {words : G → List ℕ} {next : G → G} {k : ℕ} {g g′ : G} {out out′ : List ℕ} {r draws : ℕ} (F : FilledBytes words next k g out out′ r draws g′) where
+module _ {G : Type 0} {E : Engine G} {k : ℕ} {g g′ : G} {out out′ : List ℕ} {r draws : ℕ} (F : FilledBytes E k g out out′ r draws g′) where
   pub few-kind : r ≤ 5
   few-kind = let f = few-kind-refusals k (length out) in omega (arith, F .refuses)
 
@@ -94,33 +89,33 @@ module _ {G : Type 0} {words : G → List ℕ} {next : G → G} {k : ℕ} {g g�
       go zero e = let f = few-draws k (length out) h in omega arith
       go (suc r) e = omega arith
 
-module _ {G : Type 0} (E : Engine G) (form : List ℕ) (k : ℕ) (out : List ℕ) where
+module _ {G : Type 0} (H : Forms G) (form : List ℕ) (k : ℕ) (out : List ℕ) where
   -- the form is refused
-  pub fill-no-form : {r : ℕ} {answer : ℤ} → r ≡ E .refusal form → (r ≡ 0 → ⊥) → answer ≡ answerOf r 0 → HostFill E form k out answer form out
+  pub fill-no-form : {r : ℕ} {answer : ℤ} → r ≡ H .refusal form → (r ≡ 0 → ⊥) → answer ≡ answerOf r 0 → HostFill H form k out answer form out
   fill-no-form {r} e h q =
-      let f : r ≡ fillRefusal E form k out = e ∙ sym (first-some (E .refusal form) (refusalOf k (length out)) (λ z. h (e ∙ z))) in
-      record { called = called-refused f h q; writes = sym (unless-some (fillRefusal E form k out) (λ z. h (f ∙ z)) _ out) }
+      let f : r ≡ fillRefusal H form k out = e ∙ sym (first-some (H .refusal form) (refusalOf k (length out)) (λ z. h (e ∙ z))) in
+      record { called = called-refused f h q; writes = sym (unless-some (fillRefusal H form k out) (λ z. h (f ∙ z)) _ out) }
 
-  module _ {g g′ : G} {out′ : List ℕ} {r r₀ draws : ℕ} (e₀ : r₀ ≡ E .refusal form) (z₀ : r₀ ≡ 0) (F : FilledBytes (E .words) (E .next) k g out out′ r draws g′) where
-    refusal-is : r ≡ firstOf (E .refusal form) (refusalOf k (length out))
-    refusal-is = F .refuses ∙ sym (first-none (E .refusal form) (refusalOf k (length out)) (sym e₀ ∙ z₀))
+  module _ {g g′ : G} {out′ : List ℕ} {r r₀ draws : ℕ} (e₀ : r₀ ≡ H .refusal form) (z₀ : r₀ ≡ 0) (F : FilledBytes (H .engine) k g out out′ r draws g′) where
+    refusal-is : r ≡ firstOf (H .refusal form) (refusalOf k (length out))
+    refusal-is = F .refuses ∙ sym (first-none (H .refusal form) (refusalOf k (length out)) (sym e₀ ∙ z₀))
 
     -- the kind or the length of the output is refused
-    pub fill-no-kind : {answer : ℤ} → (r ≡ 0 → ⊥) → answer ≡ answerOf r 0 → HostFill E form k out answer form out′
+    pub fill-no-kind : {answer : ℤ} → (r ≡ 0 → ⊥) → answer ≡ answerOf r 0 → HostFill H form k out answer form out′
     fill-no-kind h q =
         record {
           called = called-refused refusal-is h q;
-          writes = F .writes ∙ unless-some r h _ out ∙ sym (unless-some (fillRefusal E form k out) (λ e. h (refusal-is ∙ e)) _ out);
+          writes = F .writes ∙ unless-some r h _ out ∙ sym (unless-some (fillRefusal H form k out) (λ e. h (refusal-is ∙ e)) _ out);
         }
 
     -- nothing is
-    pub fill-done : {n r′ : ℕ} {form′ : List ℕ} {answer : ℤ} → Sound E n → g ≡ E .read form → r ≡ 0 → Saved n (E .form g′) form form′ r′ → answer ≡ answerOf 0 draws → HostFill E form k out answer form′ out′
+    pub fill-done : {n r′ : ℕ} {form′ : List ℕ} {answer : ℤ} → Sound H n → g ≡ H .read form → r ≡ 0 → Saved n (H .form g′) form form′ r′ → answer ≡ answerOf 0 draws → HostFill H form k out answer form′ out′
     fill-done s eg er S q =
-        let f : fillRefusal E form k out ≡ 0 = sym refusal-is ∙ er in
+        let f : fillRefusal H form k out ≡ 0 = sym refusal-is ∙ er in
         let d : draws ≡ bytesDraws k (length out) = F .count ∙ unless-none r er (bytesDraws k (length out)) 0 in
         record {
-          called = called-done refl f q d (saved-form S (s .sized form (sym e₀ ∙ z₀)) ∙ ap (E .form) (F .state ∙ ap₂ (λ (m : ℕ) (x : G). iterate (E .next) m x) d eg));
+          called = called-done refl f q d (saved-form S (s .sized form (sym e₀ ∙ z₀)) ∙ ap (H .form) (F .state ∙ ap₂ (λ (m : ℕ) (x : G). iterate (H .engine .next) m x) d eg));
           writes =
-              F .writes ∙ unless-none r er _ out ∙ ap (λ (x : G). bytesWritten k (λ m. E .words (iterate (E .next) m x)) (length out)) eg
-              ∙ sym (unless-none (fillRefusal E form k out) f _ out);
+              F .writes ∙ unless-none r er _ out ∙ ap (λ (x : G). bytesWritten k (wordsFrom (H .engine) x) (length out)) eg
+              ∙ sym (unless-none (fillRefusal H form k out) f _ out);
         }

@@ -5,8 +5,10 @@ use mathlib.Core.Path.{_≡_}
 use Prim.Native.Nat.{ℕ, zero, suc}
 use lib.IntN.{ℤ, pos, negsuc}
 use lib.ListN.{length}
+use Rattle.base.specs.Engine.{Engine, wordsFrom}
+use Rattle.base.specs.Refused.{unless}
 use Rattle.base.specs.Iterate.{iterate}
-use Rattle.fills.specs.FillBytes.{refusalOf, bytesWritten, bytesDraws, unless}
+use Rattle.fills.specs.FillBytes.{refusalOf, bytesWritten, bytesDraws}
 
 -- the value of an accepted call, or minus the refusal's number: negsuc n is - (n + 1)
 abbrev pub answerOf : ℕ → ℕ → ℤ
@@ -23,10 +25,9 @@ pub record Called (refusal value : ℕ) (new form form′ : List ℕ) (answer : 
   pub answers : answer ≡ answerOf refusal value
   pub saves : form′ ≡ unless refusal new form
 
--- An engine: its draws, the refusal and the generator of a form, and the form of a generator.
-pub record Engine (G : Type 0) : Type 0 where
-  pub words : G → List ℕ
-  pub next : G → G
+-- How the generators of an engine are kept: the engine, the refusal and the generator of a form, and the form of a generator.
+pub record Forms (G : Type 0) : Type 0 where
+  pub engine : Engine G
   pub refusal : List ℕ → ℕ
   pub read : List ℕ → G
   pub form : G → List ℕ
@@ -34,9 +35,9 @@ pub record Engine (G : Type 0) : Type 0 where
 -- A fill of kind k: what is refused of the form (1 to 3) comes before what is refused of the kind (4) and of the length (5). Accepted, it
 -- answers the draws of the typed fill, the output holds that fill's bytes, and the form is that of the state after them; refused, the output
 -- and the form are as they were.
-abbrev pub fillRefusal : {G : Type 0} → Engine G → List ℕ → ℕ → List ℕ → ℕ
-fillRefusal E form k out = firstOf (E .refusal form) (refusalOf k (length out))
+abbrev pub fillRefusal : {G : Type 0} → Forms G → List ℕ → ℕ → List ℕ → ℕ
+fillRefusal H form k out = firstOf (H .refusal form) (refusalOf k (length out))
 
-pub record HostFill {G : Type 0} (E : Engine G) (form : List ℕ) (k : ℕ) (out : List ℕ) (answer : ℤ) (form′ out′ : List ℕ) : Type 0 where
-  pub called : Called (fillRefusal E form k out) (bytesDraws k (length out)) (E .form (iterate (E .next) (bytesDraws k (length out)) (E .read form))) form form′ answer
-  pub writes : out′ ≡ unless (fillRefusal E form k out) (bytesWritten k (λ m. E .words (iterate (E .next) m (E .read form))) (length out)) out
+pub record HostFill {G : Type 0} (H : Forms G) (form : List ℕ) (k : ℕ) (out : List ℕ) (answer : ℤ) (form′ out′ : List ℕ) : Type 0 where
+  pub called : Called (fillRefusal H form k out) (bytesDraws k (length out)) (H .form (iterate (H .engine .next) (bytesDraws k (length out)) (H .read form))) form form′ answer
+  pub writes : out′ ≡ unless (fillRefusal H form k out) (bytesWritten k (wordsFrom (H .engine) (H .read form)) (length out)) out

@@ -5,16 +5,16 @@ use lib.IntN.{ℤ}
 use Rattle.saved.specs.Fields.{sizeOf}
 use Rattle.saved.specs.Saved.{lengthRefusal}
 use Rattle.philox_saved.specs.Form.{layout, formOf, loaded}
-use Rattle.philox_x8.specs.Machine.{wordsOf, nextOf, fresh, sought, leftOf}
+use Rattle.philox_x8.specs.Machine.{engine, fresh, sought, leftOf}
 use Rattle.philox_x8.specs.declared.Philox4x32X8.{Philox4x32X8}
-use Rattle.girderpeach.specs.Host.{answerOf, Called, Engine, HostFill}
+use Rattle.girderpeach.specs.Host.{answerOf, Called, Forms, HostFill}
 
-abbrev pub engine : Engine Philox4x32X8
-engine = record { words = wordsOf; next = nextOf; refusal = λ s. loaded s .refusal; read = λ s. loaded s .rng; form = formOf }
+abbrev pub forms : Forms Philox4x32X8
+forms = record { engine = engine; refusal = λ s. loaded s .refusal; read = λ s. loaded s .rng; form = formOf }
 
 -- gp_philox_fill
 abbrev pub Filled : List ℕ → ℕ → List ℕ → ℤ → List ℕ → List ℕ → Type 0
-Filled = HostFill engine
+Filled = HostFill forms
 
 -- gp_philox_new: only the length can be refused
 abbrev pub New : ℕ → ℕ → List ℕ → ℤ → List ℕ → Type 0

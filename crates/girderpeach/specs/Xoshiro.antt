@@ -3,20 +3,20 @@ use mathlib.Core.List.{List}
 use mathlib.Core.Path.{_≡_}
 use Prim.Native.Nat.{ℕ}
 use lib.IntN.{ℤ}
-use Rattle.fills.specs.FillBytes.{unless}
+use Rattle.base.specs.Refused.{unless}
 use Rattle.saved.specs.Fields.{sizeOf}
 use Rattle.saved.specs.Saved.{lengthRefusal}
 use Rattle.xoshiro_saved.specs.Form.{layout, formOf, loaded}
-use Rattle.xoshiro_x8.specs.Calls.{wordsOf, nextOf, placed, movedBlocks}
+use Rattle.xoshiro_x8.specs.Calls.{engine, placed, movedBlocks}
 use Rattle.xoshiro_x8.specs.declared.Xoshiro256ppX8.{Xoshiro256ppX8}
-use Rattle.girderpeach.specs.Host.{Called, Engine, HostFill}
+use Rattle.girderpeach.specs.Host.{Called, Forms, HostFill}
 
-abbrev pub engine : Engine Xoshiro256ppX8
-engine = record { words = wordsOf; next = nextOf; refusal = λ s. loaded s .refusal; read = λ s. loaded s .rng; form = formOf }
+abbrev pub forms : Forms Xoshiro256ppX8
+forms = record { engine = engine; refusal = λ s. loaded s .refusal; read = λ s. loaded s .rng; form = formOf }
 
 -- gp_xoshiro_fill
 abbrev pub Filled : List ℕ → ℕ → List ℕ → ℤ → List ℕ → List ℕ → Type 0
-Filled = HostFill engine
+Filled = HostFill forms
 
 -- gp_xoshiro_new: only the length can be refused. A refused call leaves the number as it was
 pub record New (seed block : ℕ) (form : List ℕ) (jumps : ℕ) (answer : ℤ) (form′ : List ℕ) (jumps′ : ℕ) : Type 0 where

@@ -4,9 +4,11 @@ use mathlib.Core.Path.{_≡_, refl, sym, ap, _∙_}
 use Prim.Native.Nat.{ℕ, zero, suc}
 use lib.IntN.{ℤ, pos, negsuc}
 use lib.ListN.{length}
+use Rattle.base.specs.Engine.{wordsFrom}
+use Rattle.base.specs.Refused.{unless}
 use Rattle.base.specs.Iterate.{iterate}
-use Rattle.fills.specs.FillBytes.{refusalOf, bytesWritten, bytesDraws, unless}
-use Rattle.girderpeach.specs.Host.{answerOf, firstOf, Called, Engine, fillRefusal, HostFill}
+use Rattle.fills.specs.FillBytes.{refusalOf, bytesWritten, bytesDraws}
+use Rattle.girderpeach.specs.Host.{answerOf, firstOf, Called, Forms, fillRefusal, HostFill}
 use Rattle.girderpeach_history.specs.Answers.{ifAccepted, reported, RightFill}
 
 -- ---- any call
@@ -43,27 +45,27 @@ first-none : (a b : ℕ) → firstOf a b ≡ 0 → a ≡ 0
 first-none zero b e = refl
 first-none (suc a) b e = e
 
-module _ {G : Type 0} {E : Engine G} {form : List ℕ} {k : ℕ} {before : List ℕ} {answer : ℤ} {form′ after : List ℕ} (F : HostFill E form k before answer form′ after)
-    {g : G} (read : E .refusal form ≡ 0 → E .read form ≡ g) where
-  accepted : fillRefusal E form k before ≡ 0 → E .read form ≡ g
-  accepted z = read (first-none (E .refusal form) (refusalOf k (length before)) z)
+module _ {G : Type 0} {H : Forms G} {form : List ℕ} {k : ℕ} {before : List ℕ} {answer : ℤ} {form′ after : List ℕ} (F : HostFill H form k before answer form′ after)
+    {g : G} (read : H .refusal form ≡ 0 → H .read form ≡ g) where
+  accepted : fillRefusal H form k before ≡ 0 → H .read form ≡ g
+  accepted z = read (first-none (H .refusal form) (refusalOf k (length before)) z)
 
   -- it is right, where W m are the words of draw m from g
-  pub right : {r : ℕ} → fillRefusal E form k before ≡ r → (W : ℕ → List ℕ) → ((m : ℕ) → E .words (iterate (E .next) m g) ≡ W m) → RightFill r W k before after answer form form′
-  right e W h =
+  pub right : {r : ℕ} → fillRefusal H form k before ≡ r → (W : ℕ → List ℕ) → ((m : ℕ) → wordsFrom (H .engine) g m ≡ W m) → RightFill r W k before after answer form form′
+  right e W same =
       record {
         answers = F .called .answers ∙ ap (λ (x : ℕ). answerOf x (bytesDraws k (length before))) e;
         writes =
             F .writes
-            ∙ chosen (F .called) (λ z. ap (λ (x : G). bytesWritten k (λ m. E .words (iterate (E .next) m x)) (length before)) (accepted z) ∙ (λ i. bytesWritten k (λ m. h m i) (length before))) before;
+            ∙ chosen (F .called) (λ z. ap (λ (x : G). bytesWritten k (wordsFrom (H .engine) x) (length before)) (accepted z) ∙ (λ i. bytesWritten k (λ m. same m i) (length before))) before;
         stays = stays (F .called);
       }
 
   -- the draws of an accepted fill are made, and none of a refused one
-  pub leaves : form ≡ E .form g → form′ ≡ E .form (iterate (E .next) (ifAccepted answer (bytesDraws k (length before)) 0) g)
+  pub leaves : form ≡ H .form g → form′ ≡ H .form (iterate (H .engine .next) (ifAccepted answer (bytesDraws k (length before)) 0) g)
   unfolding iterate
-  leaves e = saved (F .called) (λ z. ap (λ (x : G). E .form (iterate (E .next) (bytesDraws k (length before)) x)) (accepted z)) ∙ go answer
+  leaves e = saved (F .called) (λ z. ap (λ (x : G). H .form (iterate (H .engine .next) (bytesDraws k (length before)) x)) (accepted z)) ∙ go answer
     where
-      go : (a : ℤ) → ifAccepted a (E .form (iterate (E .next) (bytesDraws k (length before)) g)) form ≡ E .form (iterate (E .next) (ifAccepted a (bytesDraws k (length before)) 0) g)
+      go : (a : ℤ) → ifAccepted a (H .form (iterate (H .engine .next) (bytesDraws k (length before)) g)) form ≡ H .form (iterate (H .engine .next) (ifAccepted a (bytesDraws k (length before)) 0) g)
       go (pos n) = refl
       go (negsuc n) = e

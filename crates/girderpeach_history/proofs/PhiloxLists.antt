@@ -5,9 +5,10 @@ use mathlib.Core.Path.{_≡_, refl, ap, _∙_}
 use Prim.Native.Nat.{ℕ}
 use native.Mathlib.Omega.{arith}
 use lib.ListN.{length}
+use Rattle.base.specs.Refused.{unless}
 use Rattle.base.specs.Iterate.{iterate}
 use Rattle.base.proofs.Iterate.{iterate-keeps}
-use Rattle.fills.specs.FillBytes.{refusalOf, bytesDraws, unless}
+use Rattle.fills.specs.FillBytes.{refusalOf, bytesDraws}
 use Rattle.girderpeach.specs.Host.{answerOf, firstOf}
 use Rattle.philox_history.specs.History.{Tally, start, oneDraw}
 use Rattle.philox_history.proofs.Tallied.{tallied, tallied-start, tallied-words, tallied-draws, tallied-seek}

@@ -1,22 +1,9 @@
 // What the fills of every kind share, whatever the engine: how many groups come next, a buffer cut into draws, the halves of words.
 ghost use mathlib.Core.Path.{_≡_};
 ghost use Prim.Native.Nat.{_-_, _%_, min};
-ghost use Rattle.fills.specs.Buffer.{drawOf};
+ghost use Rattle.base.specs.Engine.{drawOf};
 ghost use Rattle.fills.specs.Fill.{roundUp};
 ghost use Rattle.fills.specs.Kinds.{lows as lowsOf, highs as highsOf};
-
-// The places from `at` on that a slice of length `len` has, at most `most`.
-pub fn room(len: usize, at: usize, most: usize) -> usize
-    ensures { λ r. ⌜ r ≡ min (len - at) most ⌝ }
-{
-    if len <= at {
-        return 0;
-    }
-    if len - at < most {
-        return len - at;
-    }
-    most
-}
 
 // The groups of `places` places that `len` places begin.
 pub fn groups_in(len: usize, places: usize) -> usize

@@ -23,7 +23,7 @@ fn put_f64_n(out: &mut [f64], at: usize, v: [f64; 8], n: usize)
 pub fn put_f64(out: &mut [f64], at: usize, v: [f64; 8])
     ensures { λ _. ⌜ now (out .exit) ≡ stored (now (out .entry)) at v ⌝ }
 {
-    let n = groups::room(out.len(), at, 8);
+    let n = words::room(out.len(), at, 8);
     // eight stores that the compiler knows to be eight are the fast ones
     if n == 8 {
         put_f64_n(out, at, v, 8);

@@ -6,11 +6,11 @@ use native.Mathlib.Omega.{arith}
 use lib.ListN.{getD, drop}
 use lib.Seq.{getD-drop}
 use lib.Ieee.{Float, binary32, nan}
+use Rattle.base.specs.Engine.{drawOf}
 use Rattle.base.specs.Table.{table}
 use Rattle.base.specs.Zip.{zipWith}
 use Rattle.base.proofs.Table.{getD-table, table-same}
 use Rattle.base.proofs.Zip.{zip-tables, map-table}
-use Rattle.fills.specs.Buffer.{drawOf}
 use Rattle.fills.specs.Kinds.{lows, highs, normalF32s}
 use Rattle.math.specs.BoxMuller.{cosHalf, sinHalf}
 use Rattle.units.specs.Unit.{unit, oneMinusUnit}

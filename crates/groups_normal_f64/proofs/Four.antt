@@ -6,6 +6,7 @@ use native.Mathlib.Omega.{arith}
 use lib.ListN.{length, getD, set, drop}
 use lib.Seq.{getD-drop}
 use lib.Ieee.{Float, binary64, nan, toBits}
+use Rattle.base.specs.Engine.{drawOf}
 use Rattle.base.specs.Bytes.{leBytes, flat}
 use Rattle.base.specs.Stored.{stored}
 use Rattle.base.specs.Table.{table}
@@ -14,7 +15,6 @@ use Rattle.base.proofs.Bytes.{length-leBytes, flat-map, flat-append, flat-lengt
 use Rattle.base.proofs.Stored.{stored-two}
 use Rattle.base.proofs.Table.{Tabled, tabled-none, tabled-more, tabled-end, getD-table, table-same}
 use Rattle.base.proofs.Zip.{zip-tables, map-table}
-use Rattle.fills.specs.Buffer.{drawOf}
 use Rattle.fills.specs.FillBytes.{bytesOf}
 use Rattle.fills.specs.Kinds.{normalF64s}
 use Rattle.math.specs.BoxMuller.{cosHalf, sinHalf}

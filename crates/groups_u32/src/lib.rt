@@ -20,7 +20,7 @@ fn put_u32_n(out: &mut [u32], at: usize, v: [u32; 8], n: usize)
 pub fn put_u32(out: &mut [u32], at: usize, v: [u32; 8])
     ensures { λ _. ⌜ now (out .exit) ≡ stored (now (out .entry)) at v ⌝ }
 {
-    let n = groups::room(out.len(), at, 8);
+    let n = words::room(out.len(), at, 8);
     // eight stores that the compiler knows to be eight are the fast ones
     if n == 8 {
         put_u32_n(out, at, v, 8);

@@ -7,10 +7,10 @@ use native.Mathlib.Omega.{arith}
 use lib.Dec.{leb, eqb}
 use lib.ListN.{length, set, length-append}
 use borrow.Author.Tests.{lt-ltb, le-ltb, le-leb, lt-leb, eq-eqb, ne-eqb, eqb-false}
+use Rattle.base.proofs.Put.{put-nothing, put-one, put-byte, put-then, put-length, given-yes, given-no, given-room}
+use Rattle.base.specs.Put.{Put, given}
 use Rattle.decimal.specs.Decimal.{decimal}
-use Rattle.decimal.specs.Put.{Put, given}
 use Rattle.decimal.proofs.Decimal.{length-last, decimal-long}
-use Rattle.decimal.proofs.Put.{put-none, put-one, put-byte, put-then, put-length, given-yes, given-no, given-room}
 use Rattle.decimal.proofs.Backward.{Backward, back-one}
 use Rattle.hexfloat.specs.Text.{hexDigit, hexPadded, stripped, fraction, power, number, magnitude, minus, hexText}
 
@@ -69,7 +69,7 @@ pub strip-put : {t w k at r : ℕ} {l l′ l″ : List ℕ} → Stripping t l l�
 strip-put {t} {w} {k} S p h q = rw (S .left, stripped-here k w p h, ← S .same) q
 
 pub strip-end : {t w k : ℕ} {l l′ : List ℕ} (at : ℕ) → Stripping t l l′ w k → k ≡ 0 → Put (stripped 13 t) at l l′ at
-strip-end {t} {w} {k} {l} {l′} at S z = rw (S .left, z, stripped-none w, S .same) (put-none at l)
+strip-end {t} {w} {k} {l} {l′} at S z = rw (S .left, z, stripped-none w, S .same) (put-nothing at l)
 
 -- ---- short texts, byte by byte
 pub two : (a b at : ℕ) (l : List ℕ) → Put (a ∷ b ∷ []) at l (set (set l at a) (at + 1) b) (at + 2)
@@ -88,7 +88,7 @@ minus-yes at l e = rw e (put-one at 45 l)
 
 pub minus-no : (at : ℕ) (l : List ℕ) {s : Bool} → s ≡ false → Put (minus s) at l l at
 unfolding minus
-minus-no at l e = rw e (put-none at l)
+minus-no at l e = rw e (put-nothing at l)
 
 pub minus-few : (s : Bool) → length (minus s) ≤ 1
 unfolding minus
@@ -98,7 +98,7 @@ minus-few false = omega arith
 -- ---- the fraction
 pub fraction-none : (t at : ℕ) (l : List ℕ) → t ≡ 0 → Put (fraction t) at l l at
 unfolding fraction
-fraction-none t at l e = rw (eq-eqb t 0 e) (put-none at l)
+fraction-none t at l e = rw (eq-eqb t 0 e) (put-nothing at l)
 
 pub fraction-some : {at r : ℕ} {l l′ : List ℕ} (t : ℕ) → (t ≡ 0 → ⊥) → Put (stripped 13 t) (at + 1) (set l at 46) l′ r → Put (fraction t) at l l′ r
 unfolding fraction

@@ -4,7 +4,7 @@ ghost use mathlib.Core.List.{[], _∷_};
 ghost use Prim.Native.Nat.{_+_, _≤_, _<_};
 ghost use lib.Dec.{leb};
 ghost use lib.ListN.{length};
-ghost use Rattle.decimal.specs.Put.{Put, given};
+ghost use Rattle.base.specs.Put.{Put, given};
 ghost use Rattle.hexfloat.specs.Text.{hexDigit, hexPadded, stripped, fraction, power, number, magnitude, minus, hexText, widened};
 
 fn hex_digit(d: u64) -> u8

@@ -1,10 +1,14 @@
 -- The table's rows by number, as the code tests for them.
+use mathlib.Core.Bool.{Bool, true, false, cond}
 use mathlib.Core.Path.{_≡_, refl, sym, ap, _∙_}
-use Prim.Native.Nat.{ℕ, zero, suc, _-_, _*_}
+use Prim.Native.Nat.{ℕ, zero, suc, _-_, _*_, _%_}
 use native.Mathlib.Omega.{arith}
+use borrow.Author.Tests.{eq-eqb, ne-eqb}
+use lib.Dec.{eqb}
 use lib.ListN.{getD}
 use Rattle.fills.specs.Fill.{roundUp, drawsFor}
-use Rattle.fills.specs.Kinds.{AnyKind, kinds, kindAt, of, u64s}
+use Rattle.fills.specs.FillBytes.{refusalOf}
+use Rattle.fills.specs.Kinds.{AnyKind, kinds, kindAt, isKind, of, u64s}
 
 -- kind 1 stands for the numbers that are no kind's
 pub past-6 : (k : ℕ) → kindAt (suc (suc (suc (suc (suc (suc (suc k))))))) ≡ of u64s
@@ -58,3 +62,22 @@ draws-8 (suc (suc (suc (suc (suc (suc zero)))))) n h w = absurd (h refl)
 draws-8 (suc (suc (suc (suc (suc (suc (suc k))))))) n h w =
     let one : roundUp n 8 ≡ drawsFor u64s n = omega arith in
     one ∙ ap (λ (L : AnyKind). drawsFor (L .kind) n) (sym (past-6 k))
+
+-- ---- the refusal for n bytes, by the tests that the code makes
+module _ (k n : ℕ) {b : Bool} (e : b ≡ isKind k) where
+  of-length : ℕ
+  of-length = cond (eqb (n % kindAt k .kind .width) 0) 0 5
+
+  pub refused-kind : b ≡ false → 4 ≡ refusalOf k n
+  unfolding refusalOf of-length
+  refused-kind z = ap (λ (x : Bool). cond x of-length 4) (sym z ∙ e)
+
+  pub accepted : b ≡ true → {w : ℕ} → w ≡ kindAt k .kind .width → n % w ≡ 0 → 0 ≡ refusalOf k n
+  unfolding refusalOf of-length
+  accepted z {w} ew h =
+      ap (λ (x : Bool). cond x 0 5) (sym (eq-eqb (n % kindAt k .kind .width) 0 (ap (λ (x : ℕ). n % x) (sym ew) ∙ h))) ∙ ap (λ (x : Bool). cond x of-length 4) (sym z ∙ e)
+
+  pub refused-length : b ≡ true → {w : ℕ} → w ≡ kindAt k .kind .width → (n % w ≡ 0 → ⊥) → 5 ≡ refusalOf k n
+  unfolding refusalOf of-length
+  refused-length z {w} ew h =
+      ap (λ (x : Bool). cond x 0 5) (sym (ne-eqb (n % kindAt k .kind .width) 0 (λ q. h (ap (λ (x : ℕ). n % x) ew ∙ q)))) ∙ ap (λ (x : Bool). cond x of-length 4) (sym z ∙ e)

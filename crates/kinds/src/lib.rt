@@ -1,8 +1,24 @@
 // Columns of the table of kinds, by a kind's number. Kind 1 stands for the numbers that are no kind's.
 ghost use mathlib.Core.Path.{_≡_};
 ghost use Prim.Native.Nat.{_<_, _≤_};
+ghost use lib.ListN.{length};
 ghost use Rattle.fills.specs.Fill.{roundUp, drawsFor};
-ghost use Rattle.fills.specs.Kinds.{kindAt};
+ghost use Rattle.fills.specs.Kinds.{kinds, kindAt, isKind};
+ghost use Rattle.fills.specs.FillBytes.{refusalOf};
+
+// How many kinds there are: their numbers are 1 to this.
+pub fn count() -> u64
+    ensures { λ r. ⌜ r ≡ length kinds ⌝ }
+{
+    6
+}
+
+// Whether `kind` is the number of a kind.
+pub fn is_kind(kind: u64) -> bool
+    ensures { λ r. ⌜ r ≡ isKind kind ⌝ }
+{
+    (1 <= kind) & (kind <= count())
+}
 
 // The bytes of an element.
 pub fn width(kind: u64) -> usize
@@ -43,4 +59,17 @@ pub fn draws_of(kind: u64, count: u64) -> u64
         return rounded_up(count, 16);
     }
     rounded_up(count, 8)
+}
+
+// The number of the refusal of a byte fill of `len` bytes, 0 if there is none.
+pub fn refusal_of(kind: u64, len: usize) -> u64
+    ensures { λ r. ⌜ r ≡ refusalOf kind len ⌝ }
+{
+    if is_kind(kind) {
+        if len % width(kind) == 0 {
+            return 0;
+        }
+        return 5;
+    }
+    4
 }

@@ -9,22 +9,21 @@ use lib.Dec.{eqb, leb}
 use lib.ListN.{length, getD, take, drop, set, length-append}
 use lib.Seq.{length-take-le, take-all}
 use borrow.Author.Tests.{le-leb, lt-leb, eq-eqb, ne-eqb}
+use Rattle.base.proofs.Put.{put-nothing, put-byte, put-then, put-length, given-room}
+use Rattle.base.specs.Put.{Put, given}
 use Rattle.base.specs.Bytes.{leBytes, leNat, flat}
 use Rattle.base.specs.Table.{table}
-use Rattle.base.proofs.Bytes.{length-leBytes, flat-append}
+use Rattle.base.proofs.Bytes.{length-leBytes, flat-append, le-round}
 use Rattle.base.proofs.Table.{table-append}
 use Rattle.decimal.specs.Decimal.{decimal}
 use Rattle.decimal.specs.Long.{Is, valueOf, fitting}
-use Rattle.decimal.specs.Put.{Put, given}
 use Rattle.decimal.specs.declared.Long.{Long}
 use Rattle.decimal.proofs.Decimal.{decimal-long, length-word}
 use Rattle.decimal.proofs.Backward.{long-held}
-use Rattle.decimal.proofs.Put.{put-none, put-byte, put-then, put-length, given-room}
 use Rattle.fills.specs.FillBytes.{elements, refusalOf}
 use Rattle.fills.specs.Kinds.{kindAt}
 use Rattle.hexfloat.specs.Text.{hexText, widened}
 use Rattle.hexfloat.proofs.Laws.{text-few}
-use Rattle.saved.proofs.Fields.{le-round}
 use Rattle.lines.specs.Lines.{textOf, line, valueAt, linesOf, accepted, endsOf, Counts}
 use Rattle.fills.proofs.Sounds.{row}
 use Rattle.lines.proofs.Values.{values-append}
@@ -81,7 +80,7 @@ pub record Going (k : ℕ) (raw : List ℕ) (l₀ : List ℕ) (n i : ℕ) (l : L
 module _ {k n : ℕ} {raw l₀ : List ℕ} where
   pub going-start : 25 * n ≤ length l₀ → Going k raw l₀ n 0 l₀ 0
   unfolding flat table
-  going-start h = record { texts = put-none 0 l₀; space = omega arith; long = refl; upto = omega arith }
+  going-start h = record { texts = put-nothing 0 l₀; space = omega arith; long = refl; upto = omega arith }
 
   pub going-more : {i at m b : ℕ} {l l′ : List ℕ} → Going k raw l₀ n i l at → i < n → b ≡ valueAt (kindAt k .kind .width) raw i
       → Put (line k b) at l l′ m → m ≤ at + 25 → Going k raw l₀ n (i + 1) l′ m

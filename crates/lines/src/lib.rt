@@ -4,8 +4,8 @@ ghost use mathlib.Core.Path.{_≡_};
 ghost use Prim.Native.Nat.{_+_, _/_, _^_, _<_, _≤_};
 ghost use lib.Dec.{leb};
 ghost use lib.ListN.{length};
+ghost use Rattle.base.specs.Put.{Put, given};
 ghost use Rattle.decimal.specs.Decimal.{decimal};
-ghost use Rattle.decimal.specs.Put.{Put, given};
 ghost use Rattle.fills.specs.Kinds.{kindAt};
 ghost use Rattle.lines.specs.Lines.{textOf, line, valueAt, linesOf, accepted, endsOf, Counts};
 
@@ -50,7 +50,7 @@ pub fn put_lines(kind: u64, raw: &[u8], out: &mut [u8]) -> usize
     ensures { λ r. ⌜ Put (given (accepted kind (length (now (raw .entry))) (length (now (out .entry)))) (linesOf kind (now (raw .entry)))) 0 (now (out .entry)) (now (out .exit)) r ⌝ }
     ensures { λ r. ⌜ Counts r (now (out .exit)) ⌝ }
 {
-    if groups_bytes::refusal_of(kind, raw.len()) != 0 {
+    if kinds::refusal_of(kind, raw.len()) != 0 {
         return 0;
     }
     let n = raw.len() / kinds::width(kind);

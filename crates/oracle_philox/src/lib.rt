@@ -5,7 +5,7 @@ ghost use mathlib.Core.Path.{_≡_};
 ghost use Rattle.fills.specs.Fill.{Filled};
 ghost use Rattle.fills.specs.FillBytes.{FilledBytes};
 ghost use Rattle.fills.specs.Kinds.{u64s, u32s, f32s, f64s, normalF32s, normalF64s};
-ghost use Rattle.philox_x8.specs.Machine.{wordsOf, nextOf, drawn, fresh, sought, grouped};
+ghost use Rattle.philox_x8.specs.Machine.{drawn, fresh, sought, grouped, engine};
 ghost use Rattle.oracle_philox.specs.States.{counted, blocksOf};
 
 #[no_mangle]
@@ -141,7 +141,7 @@ pub extern "C" fn oracle_philox_fill_u64(
     pending: &mut [u64; 8],
     out: &mut [u64],
 ) -> u64
-    ensures { λ r. ⌜ Filled wordsOf nextOf u64s (counted (now (key .entry)) (now (stream .entry)) (now (counter .entry)) (now (waiting .entry)) (now (pending .entry))) (now (out .entry)) (now (out .exit)) r (counted (now (key .exit)) (now (stream .exit)) (now (counter .exit)) (now (waiting .exit)) (now (pending .exit))) ⌝ }
+    ensures { λ r. ⌜ Filled engine u64s (counted (now (key .entry)) (now (stream .entry)) (now (counter .entry)) (now (waiting .entry)) (now (pending .entry))) (now (out .entry)) (now (out .exit)) r (counted (now (key .exit)) (now (stream .exit)) (now (counter .exit)) (now (waiting .exit)) (now (pending .exit))) ⌝ }
 {
     let k = *key;
     let p = *pending;
@@ -173,7 +173,7 @@ pub extern "C" fn oracle_philox_fill_u32(
     pending: &mut [u64; 8],
     out: &mut [u32],
 ) -> u64
-    ensures { λ r. ⌜ Filled wordsOf nextOf u32s (counted (now (key .entry)) (now (stream .entry)) (now (counter .entry)) (now (waiting .entry)) (now (pending .entry))) (now (out .entry)) (now (out .exit)) r (counted (now (key .exit)) (now (stream .exit)) (now (counter .exit)) (now (waiting .exit)) (now (pending .exit))) ⌝ }
+    ensures { λ r. ⌜ Filled engine u32s (counted (now (key .entry)) (now (stream .entry)) (now (counter .entry)) (now (waiting .entry)) (now (pending .entry))) (now (out .entry)) (now (out .exit)) r (counted (now (key .exit)) (now (stream .exit)) (now (counter .exit)) (now (waiting .exit)) (now (pending .exit))) ⌝ }
 {
     let k = *key;
     let p = *pending;
@@ -205,7 +205,7 @@ pub extern "C" fn oracle_philox_fill_f32(
     pending: &mut [u64; 8],
     out: &mut [f32],
 ) -> u64
-    ensures { λ r. ⌜ Filled wordsOf nextOf f32s (counted (now (key .entry)) (now (stream .entry)) (now (counter .entry)) (now (waiting .entry)) (now (pending .entry))) (now (out .entry)) (now (out .exit)) r (counted (now (key .exit)) (now (stream .exit)) (now (counter .exit)) (now (waiting .exit)) (now (pending .exit))) ⌝ }
+    ensures { λ r. ⌜ Filled engine f32s (counted (now (key .entry)) (now (stream .entry)) (now (counter .entry)) (now (waiting .entry)) (now (pending .entry))) (now (out .entry)) (now (out .exit)) r (counted (now (key .exit)) (now (stream .exit)) (now (counter .exit)) (now (waiting .exit)) (now (pending .exit))) ⌝ }
 {
     let k = *key;
     let p = *pending;
@@ -237,7 +237,7 @@ pub extern "C" fn oracle_philox_fill_f64(
     pending: &mut [u64; 8],
     out: &mut [f64],
 ) -> u64
-    ensures { λ r. ⌜ Filled wordsOf nextOf f64s (counted (now (key .entry)) (now (stream .entry)) (now (counter .entry)) (now (waiting .entry)) (now (pending .entry))) (now (out .entry)) (now (out .exit)) r (counted (now (key .exit)) (now (stream .exit)) (now (counter .exit)) (now (waiting .exit)) (now (pending .exit))) ⌝ }
+    ensures { λ r. ⌜ Filled engine f64s (counted (now (key .entry)) (now (stream .entry)) (now (counter .entry)) (now (waiting .entry)) (now (pending .entry))) (now (out .entry)) (now (out .exit)) r (counted (now (key .exit)) (now (stream .exit)) (now (counter .exit)) (now (waiting .exit)) (now (pending .exit))) ⌝ }
 {
     let k = *key;
     let p = *pending;
@@ -269,7 +269,7 @@ pub extern "C" fn oracle_philox_fill_normal_f32(
     pending: &mut [u64; 8],
     out: &mut [f32],
 ) -> u64
-    ensures { λ r. ⌜ Filled wordsOf nextOf normalF32s (counted (now (key .entry)) (now (stream .entry)) (now (counter .entry)) (now (waiting .entry)) (now (pending .entry))) (now (out .entry)) (now (out .exit)) r (counted (now (key .exit)) (now (stream .exit)) (now (counter .exit)) (now (waiting .exit)) (now (pending .exit))) ⌝ }
+    ensures { λ r. ⌜ Filled engine normalF32s (counted (now (key .entry)) (now (stream .entry)) (now (counter .entry)) (now (waiting .entry)) (now (pending .entry))) (now (out .entry)) (now (out .exit)) r (counted (now (key .exit)) (now (stream .exit)) (now (counter .exit)) (now (waiting .exit)) (now (pending .exit))) ⌝ }
 {
     let k = *key;
     let p = *pending;
@@ -301,7 +301,7 @@ pub extern "C" fn oracle_philox_fill_normal_f64(
     pending: &mut [u64; 8],
     out: &mut [f64],
 ) -> u64
-    ensures { λ r. ⌜ Filled wordsOf nextOf normalF64s (counted (now (key .entry)) (now (stream .entry)) (now (counter .entry)) (now (waiting .entry)) (now (pending .entry))) (now (out .entry)) (now (out .exit)) r (counted (now (key .exit)) (now (stream .exit)) (now (counter .exit)) (now (waiting .exit)) (now (pending .exit))) ⌝ }
+    ensures { λ r. ⌜ Filled engine normalF64s (counted (now (key .entry)) (now (stream .entry)) (now (counter .entry)) (now (waiting .entry)) (now (pending .entry))) (now (out .entry)) (now (out .exit)) r (counted (now (key .exit)) (now (stream .exit)) (now (counter .exit)) (now (waiting .exit)) (now (pending .exit))) ⌝ }
 {
     let k = *key;
     let p = *pending;
@@ -336,7 +336,7 @@ pub extern "C" fn oracle_philox_fill_bytes(
     out: &mut [u8],
     draws: &mut u64,
 ) -> u64
-    ensures { λ r. ⌜ FilledBytes wordsOf nextOf kind (counted (now (key .entry)) (now (stream .entry)) (now (counter .entry)) (now (waiting .entry)) (now (pending .entry))) (now (out .entry)) (now (out .exit)) r (now (draws .exit)) (counted (now (key .exit)) (now (stream .exit)) (now (counter .exit)) (now (waiting .exit)) (now (pending .exit))) ⌝ }
+    ensures { λ r. ⌜ FilledBytes engine kind (counted (now (key .entry)) (now (stream .entry)) (now (counter .entry)) (now (waiting .entry)) (now (pending .entry))) (now (out .entry)) (now (out .exit)) r (now (draws .exit)) (counted (now (key .exit)) (now (stream .exit)) (now (counter .exit)) (now (waiting .exit)) (now (pending .exit))) ⌝ }
 {
     let k = *key;
     let p = *pending;

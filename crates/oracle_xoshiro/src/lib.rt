@@ -5,7 +5,7 @@ ghost use mathlib.Core.Path.{_≡_};
 ghost use Rattle.fills.specs.Fill.{Filled};
 ghost use Rattle.fills.specs.FillBytes.{FilledBytes};
 ghost use Rattle.fills.specs.Kinds.{u64s, u32s, f32s, f64s, normalF32s, normalF64s};
-ghost use Rattle.xoshiro_x8.specs.Calls.{wordsOf, nextOf, drawn, placed, movedBlocks};
+ghost use Rattle.xoshiro_x8.specs.Calls.{drawn, placed, movedBlocks, engine};
 ghost use Rattle.xoshiro_x8.specs.Lanes.{ofRows};
 
 // Answers the jumps.
@@ -73,7 +73,7 @@ pub extern "C" fn oracle_xoshiro_next_u64x8(s: &mut [[u64; 8]; 4], words: &mut [
 // The fills answer their draws.
 #[no_mangle]
 pub extern "C" fn oracle_xoshiro_fill_u64(s: &mut [[u64; 8]; 4], out: &mut [u64]) -> u64
-    ensures { λ r. ⌜ Filled wordsOf nextOf u64s (ofRows (now (s .entry))) (now (out .entry)) (now (out .exit)) r (ofRows (now (s .exit))) ⌝ }
+    ensures { λ r. ⌜ Filled engine u64s (ofRows (now (s .entry))) (now (out .entry)) (now (out .exit)) r (ofRows (now (s .exit))) ⌝ }
 {
     let s0 = s[0];
     let s1 = s[1];
@@ -93,7 +93,7 @@ pub extern "C" fn oracle_xoshiro_fill_u64(s: &mut [[u64; 8]; 4], out: &mut [u64]
 
 #[no_mangle]
 pub extern "C" fn oracle_xoshiro_fill_u32(s: &mut [[u64; 8]; 4], out: &mut [u32]) -> u64
-    ensures { λ r. ⌜ Filled wordsOf nextOf u32s (ofRows (now (s .entry))) (now (out .entry)) (now (out .exit)) r (ofRows (now (s .exit))) ⌝ }
+    ensures { λ r. ⌜ Filled engine u32s (ofRows (now (s .entry))) (now (out .entry)) (now (out .exit)) r (ofRows (now (s .exit))) ⌝ }
 {
     let s0 = s[0];
     let s1 = s[1];
@@ -113,7 +113,7 @@ pub extern "C" fn oracle_xoshiro_fill_u32(s: &mut [[u64; 8]; 4], out: &mut [u32]
 
 #[no_mangle]
 pub extern "C" fn oracle_xoshiro_fill_f32(s: &mut [[u64; 8]; 4], out: &mut [f32]) -> u64
-    ensures { λ r. ⌜ Filled wordsOf nextOf f32s (ofRows (now (s .entry))) (now (out .entry)) (now (out .exit)) r (ofRows (now (s .exit))) ⌝ }
+    ensures { λ r. ⌜ Filled engine f32s (ofRows (now (s .entry))) (now (out .entry)) (now (out .exit)) r (ofRows (now (s .exit))) ⌝ }
 {
     let s0 = s[0];
     let s1 = s[1];
@@ -133,7 +133,7 @@ pub extern "C" fn oracle_xoshiro_fill_f32(s: &mut [[u64; 8]; 4], out: &mut [f32]
 
 #[no_mangle]
 pub extern "C" fn oracle_xoshiro_fill_f64(s: &mut [[u64; 8]; 4], out: &mut [f64]) -> u64
-    ensures { λ r. ⌜ Filled wordsOf nextOf f64s (ofRows (now (s .entry))) (now (out .entry)) (now (out .exit)) r (ofRows (now (s .exit))) ⌝ }
+    ensures { λ r. ⌜ Filled engine f64s (ofRows (now (s .entry))) (now (out .entry)) (now (out .exit)) r (ofRows (now (s .exit))) ⌝ }
 {
     let s0 = s[0];
     let s1 = s[1];
@@ -153,7 +153,7 @@ pub extern "C" fn oracle_xoshiro_fill_f64(s: &mut [[u64; 8]; 4], out: &mut [f64]
 
 #[no_mangle]
 pub extern "C" fn oracle_xoshiro_fill_normal_f32(s: &mut [[u64; 8]; 4], out: &mut [f32]) -> u64
-    ensures { λ r. ⌜ Filled wordsOf nextOf normalF32s (ofRows (now (s .entry))) (now (out .entry)) (now (out .exit)) r (ofRows (now (s .exit))) ⌝ }
+    ensures { λ r. ⌜ Filled engine normalF32s (ofRows (now (s .entry))) (now (out .entry)) (now (out .exit)) r (ofRows (now (s .exit))) ⌝ }
 {
     let s0 = s[0];
     let s1 = s[1];
@@ -173,7 +173,7 @@ pub extern "C" fn oracle_xoshiro_fill_normal_f32(s: &mut [[u64; 8]; 4], out: &mu
 
 #[no_mangle]
 pub extern "C" fn oracle_xoshiro_fill_normal_f64(s: &mut [[u64; 8]; 4], out: &mut [f64]) -> u64
-    ensures { λ r. ⌜ Filled wordsOf nextOf normalF64s (ofRows (now (s .entry))) (now (out .entry)) (now (out .exit)) r (ofRows (now (s .exit))) ⌝ }
+    ensures { λ r. ⌜ Filled engine normalF64s (ofRows (now (s .entry))) (now (out .entry)) (now (out .exit)) r (ofRows (now (s .exit))) ⌝ }
 {
     let s0 = s[0];
     let s1 = s[1];
@@ -199,7 +199,7 @@ pub extern "C" fn oracle_xoshiro_fill_bytes(
     out: &mut [u8],
     draws: &mut u64,
 ) -> u64
-    ensures { λ r. ⌜ FilledBytes wordsOf nextOf kind (ofRows (now (s .entry))) (now (out .entry)) (now (out .exit)) r (now (draws .exit)) (ofRows (now (s .exit))) ⌝ }
+    ensures { λ r. ⌜ FilledBytes engine kind (ofRows (now (s .entry))) (now (out .entry)) (now (out .exit)) r (now (draws .exit)) (ofRows (now (s .exit))) ⌝ }
 {
     let s0 = s[0];
     let s1 = s[1];

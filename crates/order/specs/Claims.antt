@@ -2,8 +2,9 @@
 use mathlib.Core.List.{List}
 use mathlib.Core.Path.{_≡_}
 use Prim.Native.Nat.{ℕ, _+_, _≤_}
+use lib.ListN.{length}
 use Rattle.fills.specs.Fill.{drawsFor}
-use Rattle.fills.specs.Kinds.{kindAt}
+use Rattle.fills.specs.Kinds.{kinds, kindAt}
 use Rattle.order.specs.Order.{lastBlock, lastDraw, orderOf}
 use Rattle.order.specs.declared.Order.{Order}
 
@@ -12,7 +13,7 @@ use Rattle.order.specs.declared.Order.{Order}
 pub record Accepted (o : Order) : Type 0 where
   pub engine : (1 ≤ o .engine) × (o .engine ≤ 2)
   pub block : o .block ≤ lastBlock (o .engine)
-  pub kind : (1 ≤ o .kind) × (o .kind ≤ 6)
+  pub kind : (1 ≤ o .kind) × (o .kind ≤ length kinds)
   pub draws : o .draws ≡ drawsFor (kindAt (o .kind) .kind) (o .count)
   pub end : o .first + o .draws ≤ lastDraw (o .engine) + 1
 

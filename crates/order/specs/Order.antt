@@ -3,8 +3,9 @@ use mathlib.Core.Bool.{Bool, true, false, cond, not}
 use mathlib.Core.List.{List}
 use Prim.Native.Nat.{ℕ, _+_, _-_, _^_}
 use lib.Dec.{eqb, leb, ltb}
+use lib.ListN.{length}
 use Rattle.fills.specs.Fill.{drawsFor}
-use Rattle.fills.specs.Kinds.{kindAt}
+use Rattle.fills.specs.Kinds.{kinds, kindAt}
 use Rattle.order.specs.Words as words
 use Rattle.order.specs.Words.{startsWith, number}
 use Rattle.order.specs.declared.Order.{Order}
@@ -15,7 +16,7 @@ engineOf s = cond (startsWith words.xoshiro s) 1 (cond (startsWith words.philox 
 
 -- the kind of a text, by its name or by its number, 0 for none
 unfoldable pub numbered : List ℕ → ℕ
-numbered s = number 6 s 0 (λ k. k)
+numbered s = number (length kinds) s 0 (λ k. k)
 
 unfoldable pub kindOf : List ℕ → ℕ
 kindOf s =

@@ -77,7 +77,7 @@ fn engine_of(s: &[u8]) -> u64
 fn numbered_kind(s: &[u8]) -> u64
     ensures { λ r. ⌜ r ≡ numbered (now (s .entry)) ⌝ }
 {
-    let Number::Value(k, _) = decimal::read_number(s, 0, 0, 6) else {
+    let Number::Value(k, _) = decimal::read_number(s, 0, 0, kinds::count()) else {
         return 0;
     };
     k

@@ -5,17 +5,16 @@ use mathlib.Core.Path.{_≡_, refl, sym, ap, _∙_}
 use Prim.Native.Nat.{ℕ, zero, suc, _+_, _-_, _*_, _/_, _%_, _^_, _<_, _≤_, min}
 use native.Mathlib.Omega.{arith}
 use lib.ListN.{length, getD, set}
+use Rattle.base.proofs.Engine.{none-drawn, drawn-more, held-at-first}
+use Rattle.base.specs.Engine.{drawnWords, DrawnAt, drawOf}
 use Rattle.base.specs.Iterate.{iterate}
 use Rattle.base.specs.Stored.{stored}
 use Rattle.base.proofs.Stored.{length-stored}
 use Rattle.base.proofs.Table.{length-table, table-same}
-use Rattle.fills.specs.Buffer.{drawOf, drawnWords, DrawnAt}
 use Rattle.philox.specs.Philox.{block}
-use Rattle.philox_x8.specs.Machine.{blockAt, lowerAt, upperAt, sought, holding, past, wordsOf, nextOf, drawn}
+use Rattle.philox_x8.specs.Machine.{blockAt, lowerAt, upperAt, sought, holding, past, wordsOf, nextOf, drawn, engine}
 use Rattle.philox_x8.specs.declared.Philox4x32X8.{Philox4x32X8}
 use Rattle.philox_x8.specs.declared.Draw.{Draw}
-use Rattle.fills.proofs.Ahead.{none-drawn, drawn-more}
-use Rattle.fills.proofs.Held.{held-at-first}
 use Rattle.philox_x8.proofs.Machine.{words-waiting, next-waiting, words-fresh, next-fresh}
 use Rattle.philox_x8.proofs.Theorems.{eight-words}
 use Rattle.philox_draws.specs.Draws.{lowerOf, upperOf, atBlock, drawsAtOnce}
@@ -53,9 +52,9 @@ module _ (key : List ℕ) (stream n : ℕ) where
   group-stored S h = storing-end S h
 
   -- two draws more, from here on
-  group-drawn : {g : Philox4x32X8} {l out out′ : List ℕ} {at m n′ : ℕ} → DrawnAt wordsOf nextOf g at m l out m G
+  group-drawn : {g : Philox4x32X8} {l out out′ : List ℕ} {at m n′ : ℕ} → DrawnAt engine g at m l out m G
       → out′ ≡ stored (stored out (at + m * 8) (lowerAt G n)) (at + m * 8 + 8) (upperAt G n) → n′ ≡ past n
-      → DrawnAt wordsOf nextOf g at (m + 1 + 1) l out′ (m + 1 + 1) (atBlock key stream n′)
+      → DrawnAt engine g at (m + 1 + 1) l out′ (m + 1 + 1) (atBlock key stream n′)
   group-drawn {g} {l} {out} {out′} {at} {m} {n′} D eo en =
       let lower = ap (stored out (at + m * 8)) (sym (words-fresh G refl)) in
       let first = drawn-more eight-words D lower refl in
@@ -66,7 +65,7 @@ module _ (key : List ℕ) (stream n : ℕ) where
 pub record Grouping (key : List ℕ) (stream first : ℕ) (l : List ℕ) (at m : ℕ) (out : List ℕ) (n i : ℕ) : Type 0 where
   pub upto : i ≤ m
   pub same : length out ≡ length l
-  pub drawn : DrawnAt wordsOf nextOf (atBlock key stream first) at (2 * i) l out (2 * i) (atBlock key stream n)
+  pub drawn : DrawnAt engine (atBlock key stream first) at (2 * i) l out (2 * i) (atBlock key stream n)
 
 module _ {key : List ℕ} {stream first : ℕ} {l : List ℕ} {at m : ℕ} where
   pub grouping-none : Grouping key stream first l at m l first 0
@@ -87,7 +86,7 @@ module _ {key : List ℕ} {stream first : ℕ} {l : List ℕ} {at m : ℕ} where
       }
 
   pub grouping-end : {out : List ℕ} {n i : ℕ} → Grouping key stream first l at m out n i → m ≤ i
-      → DrawnAt wordsOf nextOf (atBlock key stream first) at (2 * m) l out (2 * m) (atBlock key stream n)
+      → DrawnAt engine (atBlock key stream first) at (2 * m) l out (2 * m) (atBlock key stream n)
   grouping-end {out} {n} {i} S h =
       let u = S .upto in
       let e : i ≡ m = omega arith in
@@ -99,7 +98,7 @@ unfolding drawsAtOnce
 once g n e = ap (λ (b : Bool). cond b 1 (2 * (n / 16))) e
 
 -- where 16 places are left, a call makes some draws, and all have room
-pub drawn-some : {g rng : Philox4x32X8} {at d : ℕ} {l out : List ℕ} → DrawnAt wordsOf nextOf g at (drawsAtOnce g (length l - at)) l out d rng
+pub drawn-some : {g rng : Philox4x32X8} {at d : ℕ} {l out : List ℕ} → DrawnAt engine g at (drawsAtOnce g (length l - at)) l out d rng
     → 16 ≤ length l - at → (0 < d) × (d * 8 ≤ length l - at)
 drawn-some {g} {rng} {at} {d} {l} D h = rw (D .count, once g n refl) (go (g .waiting))
   where
@@ -130,7 +129,7 @@ module _ (g : Philox4x32X8) (e : g .waiting ≡ false) where
   same-later (suc k) = ap wordsOf (same-next k)
 
   -- one draw made with the one after it, the words of both in a list of 16
-  pub both-drawn : {old both lo hi : List ℕ} {d n : ℕ} → length old ≡ 16 → DrawnAt wordsOf nextOf H 0 2 old both d (atBlock (g .key) (g .stream) n)
+  pub both-drawn : {old both lo hi : List ℕ} {d n : ℕ} → length old ≡ 16 → DrawnAt engine H 0 2 old both d (atBlock (g .key) (g .stream) n)
       → lo ≡ drawOf both 0 → hi ≡ drawOf both 1
       → _≡_ {A = Draw} (record { words = lo; rng = record { key = g .key; stream = g .stream; counter = n; waiting = true; pending = hi } }) (drawn g)
   unfolding drawn holding iterate upperAt
@@ -142,7 +141,7 @@ module _ (g : Philox4x32X8) (e : g .waiting ≡ false) where
       let made : _≡_ {A = Philox4x32X8} (record { key = g .key; stream = g .stream; counter = n; waiting = true; pending = _ }) (nextOf g) = (λ i. record { key = g .key; stream = g .stream; counter = en i; waiting = true; pending = hi i }) ∙ sym (next-fresh g e) in
       λ i. record { words = lo i; rng = made i }
 
-  same-drawn : (m : ℕ) → drawnWords wordsOf nextOf m g ≡ drawnWords wordsOf nextOf m H
+  same-drawn : (m : ℕ) → drawnWords engine m g ≡ drawnWords engine m H
   unfolding drawnWords
   same-drawn m = table-same (m * 8) _ _ (λ k h. ap (λ (l : List ℕ). getD l (k % 8) 0) (same-later (k / 8)))
 
@@ -152,14 +151,14 @@ module _ (g : Philox4x32X8) (e : g .waiting ≡ false) where
         let e′ : r ≡ length l - at = omega arith in
         ap (λ (k : ℕ). 2 * (k / 16)) e′ ∙ sym (once g (length l - at) e)
 
-    pub no-room : r / 16 ≡ 0 → DrawnAt wordsOf nextOf g at (drawsAtOnce g (length l - at)) l l 0 g
+    pub no-room : r / 16 ≡ 0 → DrawnAt engine g at (drawsAtOnce g (length l - at)) l l 0 g
     no-room z =
         let e′ : 0 ≡ drawsAtOnce g (length l - at) = omega (arith, whole) in
         rw (← e′) (none-drawn refl)
 
     pub groups-drawn : (r / 16 ≡ 0 → ⊥) → {out : List ℕ} {n : ℕ} {rng : Philox4x32X8}
-        → DrawnAt wordsOf nextOf H at (2 * (r / 16)) l out (2 * (r / 16)) (atBlock (g .key) (g .stream) n) → rng ≡ sought g n
-        → DrawnAt wordsOf nextOf g at (drawsAtOnce g (length l - at)) l out (2 * (r / 16)) rng
+        → DrawnAt engine H at (2 * (r / 16)) l out (2 * (r / 16)) (atBlock (g .key) (g .stream) n) → rng ≡ sought g n
+        → DrawnAt engine g at (drawsAtOnce g (length l - at)) l out (2 * (r / 16)) rng
     unfolding sought
     groups-drawn z D en =
         let m : ℕ = 2 * (r / 16) in
@@ -169,7 +168,7 @@ module _ (g : Philox4x32X8) (e : g .waiting ≡ false) where
 
 -- where words wait, they are the draw
 pub waiting-drawn : (g : Philox4x32X8) → g .waiting ≡ true → (n : ℕ) {l out : List ℕ} {at : ℕ} {d : Draw} → d ≡ drawn g → out ≡ stored l at (d .words)
-    → DrawnAt wordsOf nextOf g at (drawsAtOnce g n) l out 1 (d .rng)
+    → DrawnAt engine g at (drawsAtOnce g n) l out 1 (d .rng)
 unfolding drawn
 waiting-drawn g e n {l} {out} {at} {d} ed eo =
     let here : at ≡ at + 0 * 8 = omega arith in

@@ -6,7 +6,7 @@ ghost use Rattle.fills.specs.Buffer.{bytesKind};
 ghost use Rattle.fills.specs.Fill.{Filled};
 ghost use Rattle.fills.specs.FillBytes.{FilledBytes};
 ghost use Rattle.fills.specs.Kinds.{normalF64s, kindAt};
-ghost use Rattle.philox_x8.specs.Machine.{wordsOf, nextOf};
+ghost use Rattle.philox_x8.specs.Machine.{engine};
 
 // The number of a byte fill's refusal, or 0; its draws, and the generator after them.
 pub struct ByteFill {
@@ -18,14 +18,14 @@ pub struct ByteFill {
 // The bytes of a kind whose groups take one draw, draw by draw.
 fn fill_draws(g: Philox4x32X8, kind: u64, out: &mut [u8]) -> Fill
     requires { ⌜ (kind ≡ 6 → ⊥) ⌝ }
-    ensures { λ r. ⌜ Filled wordsOf nextOf (bytesKind (kindAt kind .kind)) g (now (out .entry)) (now (out .exit)) (r .draws) (r .rng) ⌝ }
+    ensures { λ r. ⌜ Filled engine (bytesKind (kindAt kind .kind)) g (now (out .entry)) (now (out .exit)) (r .draws) (r .rng) ⌝ }
 {
     let m = groups::groups_in(out.len(), 64);
     let mut rng = g;
     for j in 0..m {
         let d = philox_draws::draw(rng);
         let w = d.words;
-        groups_bytes::put_group(kind, out, j * 64, w);
+        element_bytes::put_group(kind, out, j * 64, w);
         rng = d.rng;
     }
     Fill {
@@ -36,7 +36,7 @@ fn fill_draws(g: Philox4x32X8, kind: u64, out: &mut [u8]) -> Fill
 
 // Kind 6, draw by draw.
 fn fill_normal_f64(g: Philox4x32X8, out: &mut [u8]) -> Fill
-    ensures { λ r. ⌜ Filled wordsOf nextOf (bytesKind normalF64s) g (now (out .entry)) (now (out .exit)) (r .draws) (r .rng) ⌝ }
+    ensures { λ r. ⌜ Filled engine (bytesKind normalF64s) g (now (out .entry)) (now (out .exit)) (r .draws) (r .rng) ⌝ }
 {
     let m = groups::groups_in(out.len(), 128);
     let mut rng = g;
@@ -57,16 +57,16 @@ fn fill_normal_f64(g: Philox4x32X8, out: &mut [u8]) -> Fill
 
 // The bytes of a kind, by way of a buffer of draws, many of which are made at once.
 fn fill_ahead(g: Philox4x32X8, kind: u64, out: &mut [u8]) -> Fill
-    ensures { λ r. ⌜ Filled wordsOf nextOf (bytesKind (kindAt kind .kind)) g (now (out .entry)) (now (out .exit)) (r .draws) (r .rng) ⌝ }
+    ensures { λ r. ⌜ Filled engine (bytesKind (kindAt kind .kind)) g (now (out .entry)) (now (out .exit)) (r .draws) (r .rng) ⌝ }
 {
     let mut rng = g;
     let mut draws: u64 = 0;
     let mut at = 0;
     let mut buf = [0u64; 128];
     while at < out.len() {
-        let m = groups_bytes::draws_ahead(kind, out.len(), at);
+        let m = element_bytes::draws_ahead(kind, out.len(), at);
         let f = philox_words::fill_buffer(rng, &mut buf, m);
-        groups_bytes::map_bytes(kind, out, at, &buf);
+        element_bytes::map_bytes(kind, out, at, &buf);
         rng = f.rng;
         draws += f.draws;
         at += m * 64;
@@ -76,7 +76,7 @@ fn fill_ahead(g: Philox4x32X8, kind: u64, out: &mut [u8]) -> Fill
 
 // The bytes of a kind. A buffer is worth its while from eight draws on.
 fn fill_kind(g: Philox4x32X8, kind: u64, out: &mut [u8]) -> Fill
-    ensures { λ r. ⌜ Filled wordsOf nextOf (bytesKind (kindAt kind .kind)) g (now (out .entry)) (now (out .exit)) (r .draws) (r .rng) ⌝ }
+    ensures { λ r. ⌜ Filled engine (bytesKind (kindAt kind .kind)) g (now (out .entry)) (now (out .exit)) (r .draws) (r .rng) ⌝ }
 {
     if 512 <= out.len() {
         return fill_ahead(g, kind, out);
@@ -90,9 +90,9 @@ fn fill_kind(g: Philox4x32X8, kind: u64, out: &mut [u8]) -> Fill
 // The bytes of the fill of a kind, by its number: elements little-endian, floats as their bits. Refused with 4 where `kind` is outside 1 to 6,
 // with 5 where the length isn't a multiple of the kind's width; then nothing changes.
 pub fn fill_bytes(g: Philox4x32X8, kind: u64, out: &mut [u8]) -> ByteFill
-    ensures { λ r. ⌜ FilledBytes wordsOf nextOf kind g (now (out .entry)) (now (out .exit)) (r .refusal) (r .draws) (r .rng) ⌝ }
+    ensures { λ r. ⌜ FilledBytes engine kind g (now (out .entry)) (now (out .exit)) (r .refusal) (r .draws) (r .rng) ⌝ }
 {
-    let refusal = groups_bytes::refusal_of(kind, out.len());
+    let refusal = kinds::refusal_of(kind, out.len());
     if refusal != 0 {
         return ByteFill {
             refusal,

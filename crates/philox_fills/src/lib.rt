@@ -6,11 +6,11 @@ pub use philox_words::fill_u64;
 use philox_x8::Philox4x32X8;
 ghost use Rattle.fills.specs.Fill.{Filled};
 ghost use Rattle.fills.specs.Kinds.{u32s, f32s, f64s, normalF32s, normalF64s};
-ghost use Rattle.philox_x8.specs.Machine.{wordsOf, nextOf};
+ghost use Rattle.philox_x8.specs.Machine.{engine};
 
 // Kind 2, draw by draw.
 fn fill_u32_plain(g: Philox4x32X8, out: &mut [u32]) -> Fill
-    ensures { λ r. ⌜ Filled wordsOf nextOf u32s g (now (out .entry)) (now (out .exit)) (r .draws) (r .rng) ⌝ }
+    ensures { λ r. ⌜ Filled engine u32s g (now (out .entry)) (now (out .exit)) (r .draws) (r .rng) ⌝ }
 {
     let m = groups::groups_in(out.len(), 16);
     let mut rng = g;
@@ -28,7 +28,7 @@ fn fill_u32_plain(g: Philox4x32X8, out: &mut [u32]) -> Fill
 
 // Kind 2, by way of a buffer of draws, many of which are made at once.
 fn fill_u32_ahead(g: Philox4x32X8, out: &mut [u32]) -> Fill
-    ensures { λ r. ⌜ Filled wordsOf nextOf u32s g (now (out .entry)) (now (out .exit)) (r .draws) (r .rng) ⌝ }
+    ensures { λ r. ⌜ Filled engine u32s g (now (out .entry)) (now (out .exit)) (r .draws) (r .rng) ⌝ }
 {
     let mut rng = g;
     let mut draws: u64 = 0;
@@ -47,7 +47,7 @@ fn fill_u32_ahead(g: Philox4x32X8, out: &mut [u32]) -> Fill
 
 // Kind 2: their low halves, then their high halves. A buffer is worth its while from eight draws on.
 pub fn fill_u32(g: Philox4x32X8, out: &mut [u32]) -> Fill
-    ensures { λ r. ⌜ Filled wordsOf nextOf u32s g (now (out .entry)) (now (out .exit)) (r .draws) (r .rng) ⌝ }
+    ensures { λ r. ⌜ Filled engine u32s g (now (out .entry)) (now (out .exit)) (r .draws) (r .rng) ⌝ }
 {
     if out.len() < 128 {
         return fill_u32_plain(g, out);
@@ -57,7 +57,7 @@ pub fn fill_u32(g: Philox4x32X8, out: &mut [u32]) -> Fill
 
 // Kind 3, draw by draw.
 fn fill_f32_plain(g: Philox4x32X8, out: &mut [f32]) -> Fill
-    ensures { λ r. ⌜ Filled wordsOf nextOf f32s g (now (out .entry)) (now (out .exit)) (r .draws) (r .rng) ⌝ }
+    ensures { λ r. ⌜ Filled engine f32s g (now (out .entry)) (now (out .exit)) (r .draws) (r .rng) ⌝ }
 {
     let m = groups::groups_in(out.len(), 16);
     let mut rng = g;
@@ -75,7 +75,7 @@ fn fill_f32_plain(g: Philox4x32X8, out: &mut [f32]) -> Fill
 
 // Kind 3, by way of a buffer of draws, many of which are made at once.
 fn fill_f32_ahead(g: Philox4x32X8, out: &mut [f32]) -> Fill
-    ensures { λ r. ⌜ Filled wordsOf nextOf f32s g (now (out .entry)) (now (out .exit)) (r .draws) (r .rng) ⌝ }
+    ensures { λ r. ⌜ Filled engine f32s g (now (out .entry)) (now (out .exit)) (r .draws) (r .rng) ⌝ }
 {
     let mut rng = g;
     let mut draws: u64 = 0;
@@ -94,7 +94,7 @@ fn fill_f32_ahead(g: Philox4x32X8, out: &mut [f32]) -> Fill
 
 // Kind 3: the units of kind 2.
 pub fn fill_f32(g: Philox4x32X8, out: &mut [f32]) -> Fill
-    ensures { λ r. ⌜ Filled wordsOf nextOf f32s g (now (out .entry)) (now (out .exit)) (r .draws) (r .rng) ⌝ }
+    ensures { λ r. ⌜ Filled engine f32s g (now (out .entry)) (now (out .exit)) (r .draws) (r .rng) ⌝ }
 {
     if out.len() < 128 {
         return fill_f32_plain(g, out);
@@ -104,7 +104,7 @@ pub fn fill_f32(g: Philox4x32X8, out: &mut [f32]) -> Fill
 
 // Kind 4, draw by draw.
 fn fill_f64_plain(g: Philox4x32X8, out: &mut [f64]) -> Fill
-    ensures { λ r. ⌜ Filled wordsOf nextOf f64s g (now (out .entry)) (now (out .exit)) (r .draws) (r .rng) ⌝ }
+    ensures { λ r. ⌜ Filled engine f64s g (now (out .entry)) (now (out .exit)) (r .draws) (r .rng) ⌝ }
 {
     let m = groups::groups_in(out.len(), 8);
     let mut rng = g;
@@ -122,7 +122,7 @@ fn fill_f64_plain(g: Philox4x32X8, out: &mut [f64]) -> Fill
 
 // Kind 4, by way of a buffer of draws, many of which are made at once.
 fn fill_f64_ahead(g: Philox4x32X8, out: &mut [f64]) -> Fill
-    ensures { λ r. ⌜ Filled wordsOf nextOf f64s g (now (out .entry)) (now (out .exit)) (r .draws) (r .rng) ⌝ }
+    ensures { λ r. ⌜ Filled engine f64s g (now (out .entry)) (now (out .exit)) (r .draws) (r .rng) ⌝ }
 {
     let mut rng = g;
     let mut draws: u64 = 0;
@@ -141,7 +141,7 @@ fn fill_f64_ahead(g: Philox4x32X8, out: &mut [f64]) -> Fill
 
 // Kind 4: the units of the words.
 pub fn fill_f64(g: Philox4x32X8, out: &mut [f64]) -> Fill
-    ensures { λ r. ⌜ Filled wordsOf nextOf f64s g (now (out .entry)) (now (out .exit)) (r .draws) (r .rng) ⌝ }
+    ensures { λ r. ⌜ Filled engine f64s g (now (out .entry)) (now (out .exit)) (r .draws) (r .rng) ⌝ }
 {
     if out.len() < 64 {
         return fill_f64_plain(g, out);
@@ -151,7 +151,7 @@ pub fn fill_f64(g: Philox4x32X8, out: &mut [f64]) -> Fill
 
 // Kind 5, draw by draw.
 fn fill_normal_f32_plain(g: Philox4x32X8, out: &mut [f32]) -> Fill
-    ensures { λ r. ⌜ Filled wordsOf nextOf normalF32s g (now (out .entry)) (now (out .exit)) (r .draws) (r .rng) ⌝ }
+    ensures { λ r. ⌜ Filled engine normalF32s g (now (out .entry)) (now (out .exit)) (r .draws) (r .rng) ⌝ }
 {
     let m = groups::groups_in(out.len(), 16);
     let mut rng = g;
@@ -169,7 +169,7 @@ fn fill_normal_f32_plain(g: Philox4x32X8, out: &mut [f32]) -> Fill
 
 // Kind 5, by way of a buffer of draws: 64 lanes at a time are faster than eight.
 fn fill_normal_f32_ahead(g: Philox4x32X8, out: &mut [f32]) -> Fill
-    ensures { λ r. ⌜ Filled wordsOf nextOf normalF32s g (now (out .entry)) (now (out .exit)) (r .draws) (r .rng) ⌝ }
+    ensures { λ r. ⌜ Filled engine normalF32s g (now (out .entry)) (now (out .exit)) (r .draws) (r .rng) ⌝ }
 {
     let mut rng = g;
     let mut draws: u64 = 0;
@@ -188,7 +188,7 @@ fn fill_normal_f32_ahead(g: Philox4x32X8, out: &mut [f32]) -> Fill
 
 // Kind 5: normals, from the halves of each word. A buffer is worth its while from 64 lanes on.
 pub fn fill_normal_f32(g: Philox4x32X8, out: &mut [f32]) -> Fill
-    ensures { λ r. ⌜ Filled wordsOf nextOf normalF32s g (now (out .entry)) (now (out .exit)) (r .draws) (r .rng) ⌝ }
+    ensures { λ r. ⌜ Filled engine normalF32s g (now (out .entry)) (now (out .exit)) (r .draws) (r .rng) ⌝ }
 {
     if out.len() < 128 {
         return fill_normal_f32_plain(g, out);
@@ -198,7 +198,7 @@ pub fn fill_normal_f32(g: Philox4x32X8, out: &mut [f32]) -> Fill
 
 // Kind 6, draw by draw.
 fn fill_normal_f64_plain(g: Philox4x32X8, out: &mut [f64]) -> Fill
-    ensures { λ r. ⌜ Filled wordsOf nextOf normalF64s g (now (out .entry)) (now (out .exit)) (r .draws) (r .rng) ⌝ }
+    ensures { λ r. ⌜ Filled engine normalF64s g (now (out .entry)) (now (out .exit)) (r .draws) (r .rng) ⌝ }
 {
     let m = groups::groups_in(out.len(), 16);
     let mut rng = g;
@@ -219,7 +219,7 @@ fn fill_normal_f64_plain(g: Philox4x32X8, out: &mut [f64]) -> Fill
 
 // Kind 6, by way of a buffer of draws: 32 lanes at a time are faster than eight.
 fn fill_normal_f64_ahead(g: Philox4x32X8, out: &mut [f64]) -> Fill
-    ensures { λ r. ⌜ Filled wordsOf nextOf normalF64s g (now (out .entry)) (now (out .exit)) (r .draws) (r .rng) ⌝ }
+    ensures { λ r. ⌜ Filled engine normalF64s g (now (out .entry)) (now (out .exit)) (r .draws) (r .rng) ⌝ }
 {
     let mut rng = g;
     let mut draws: u64 = 0;
@@ -238,7 +238,7 @@ fn fill_normal_f64_ahead(g: Philox4x32X8, out: &mut [f64]) -> Fill
 
 // Kind 6: normals, from the words of two draws. A buffer is worth its while from 32 lanes on.
 pub fn fill_normal_f64(g: Philox4x32X8, out: &mut [f64]) -> Fill
-    ensures { λ r. ⌜ Filled wordsOf nextOf normalF64s g (now (out .entry)) (now (out .exit)) (r .draws) (r .rng) ⌝ }
+    ensures { λ r. ⌜ Filled engine normalF64s g (now (out .entry)) (now (out .exit)) (r .draws) (r .rng) ⌝ }
 {
     if out.len() < 64 {
         return fill_normal_f64_plain(g, out);

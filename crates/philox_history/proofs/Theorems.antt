@@ -4,9 +4,10 @@ use mathlib.Core.Path.{_≡_, refl, sym, ap, ap₂, _∙_}
 use Prim.Native.Nat.{ℕ, zero, suc, _+_}
 use native.Mathlib.Omega.{arith}
 use lib.ListN.{length}
+use Rattle.base.specs.Refused.{unless}
 use Rattle.base.specs.Iterate.{iterate}
 use Rattle.fills.specs.Fill.{drawsFor}
-use Rattle.fills.specs.FillBytes.{refusalOf, bytesDraws, unless}
+use Rattle.fills.specs.FillBytes.{refusalOf, bytesDraws}
 use Rattle.fills.proofs.Handed.{right-fill, right-bytes, draws-made, draws-reported}
 use Rattle.philox_x8.specs.Machine.{wordsOf, nextOf, drawn, grouped, sought}
 use Rattle.philox_x8.specs.declared.Blocks.{Blocks}

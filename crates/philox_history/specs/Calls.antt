@@ -5,7 +5,7 @@ use mathlib.Core.Path.{_≡_}
 use Prim.Native.Nat.{ℕ, _^_, _<_}
 use Rattle.fills.specs.Fill.{Kind, Filled}
 use Rattle.fills.specs.FillBytes.{FilledBytes}
-use Rattle.philox_x8.specs.Machine.{wordsOf, nextOf, drawn, grouped, sought}
+use Rattle.philox_x8.specs.Machine.{drawn, grouped, sought, engine}
 use Rattle.philox_x8.specs.declared.Blocks.{Blocks}
 use Rattle.philox_x8.specs.declared.Draw.{Draw}
 use Rattle.philox_x8.specs.declared.Philox4x32X8.{Philox4x32X8}
@@ -26,8 +26,8 @@ abbrev pub Step : Philox4x32X8 → Call → Type 0
 Step s (draw r) = r ≡ drawn s
 Step s (group r) = r ≡ grouped s
 Step s (seek n u64 r) = r ≡ sought s n
-Step s (fill K before after r) = Filled wordsOf nextOf K s before after (r .draws) (r .rng)
-Step s (bytes k before after r) = FilledBytes wordsOf nextOf k s before after (r .refusal) (r .draws) (r .rng)
+Step s (fill K before after r) = Filled engine K s before after (r .draws) (r .rng)
+Step s (bytes k before after r) = FilledBytes engine k s before after (r .refusal) (r .draws) (r .rng)
 
 -- the generator that the call handed back
 abbrev pub rngOf : Call → Philox4x32X8

@@ -6,9 +6,10 @@ use mathlib.Core.Path.{_≡_}
 use Prim.Native.Nat.{ℕ, _+_, _*_, _%_, _^_}
 use lib.Dec.{eqb}
 use lib.ListN.{length}
+use Rattle.base.specs.Refused.{unless}
 use Rattle.base.specs.Iterate.{iterate}
 use Rattle.fills.specs.Fill.{roundUp, drawsFor}
-use Rattle.fills.specs.FillBytes.{refusalOf, bytesDraws, unless}
+use Rattle.fills.specs.FillBytes.{refusalOf, bytesDraws}
 use Rattle.fills.specs.Handed.{RightFill, RightBytes}
 use Rattle.philox_x8.specs.Machine.{groupAt, lowerAt, upperAt, none8, fresh}
 use Rattle.philox_x8.specs.declared.Blocks.{Blocks}

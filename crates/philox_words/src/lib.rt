@@ -2,10 +2,10 @@
 use philox_x8::Philox4x32X8;
 ghost use Prim.Native.Nat.{_*_, _≤_, min};
 ghost use lib.ListN.{length};
-ghost use Rattle.fills.specs.Buffer.{Drawn};
+ghost use Rattle.base.specs.Engine.{Drawn};
 ghost use Rattle.fills.specs.Fill.{Filled};
 ghost use Rattle.fills.specs.Kinds.{u64s};
-ghost use Rattle.philox_x8.specs.Machine.{wordsOf, nextOf};
+ghost use Rattle.philox_x8.specs.Machine.{engine};
 
 // The draws that a fill made, and the generator after them.
 pub struct Fill {
@@ -15,7 +15,7 @@ pub struct Fill {
 
 // Kind 1, draw by draw.
 fn fill_u64_plain(g: Philox4x32X8, out: &mut [u64]) -> Fill
-    ensures { λ r. ⌜ Filled wordsOf nextOf u64s g (now (out .entry)) (now (out .exit)) (r .draws) (r .rng) ⌝ }
+    ensures { λ r. ⌜ Filled engine u64s g (now (out .entry)) (now (out .exit)) (r .draws) (r .rng) ⌝ }
 {
     let mut rng = g;
     let mut draws: u64 = 0;
@@ -23,7 +23,7 @@ fn fill_u64_plain(g: Philox4x32X8, out: &mut [u64]) -> Fill
     while at < out.len() {
         let d = philox_draws::draw(rng);
         let w = d.words;
-        groups_u64::put_u64(out, at, w);
+        places::put_u64(out, at, w);
         rng = d.rng;
         draws += 1;
         at += 8;
@@ -33,7 +33,7 @@ fn fill_u64_plain(g: Philox4x32X8, out: &mut [u64]) -> Fill
 
 // Kind 1: the words. Many draws at once while two draws have room, and the rest draw by draw.
 pub fn fill_u64(g: Philox4x32X8, out: &mut [u64]) -> Fill
-    ensures { λ r. ⌜ Filled wordsOf nextOf u64s g (now (out .entry)) (now (out .exit)) (r .draws) (r .rng) ⌝ }
+    ensures { λ r. ⌜ Filled engine u64s g (now (out .entry)) (now (out .exit)) (r .draws) (r .rng) ⌝ }
 {
     let mut rng = g;
     let mut draws: u64 = 0;
@@ -58,7 +58,7 @@ pub fn fill_u64(g: Philox4x32X8, out: &mut [u64]) -> Fill
 // The words of `m` draws, in the first places of `b`. The places after them stay.
 fn fill_first(g: Philox4x32X8, b: &mut [u64], m: usize) -> Fill
     requires { ⌜ m * 8 ≤ length (now b) ⌝ }
-    ensures { λ r. ⌜ Drawn wordsOf nextOf g m (now (b .entry)) (now (b .exit)) (r .draws) (r .rng) ⌝ }
+    ensures { λ r. ⌜ Drawn engine g m (now (b .entry)) (now (b .exit)) (r .draws) (r .rng) ⌝ }
 {
     let n = m * 8;
     fill_u64(g, &mut b[..n])
@@ -67,7 +67,7 @@ fn fill_first(g: Philox4x32X8, b: &mut [u64], m: usize) -> Fill
 // The words of `m` draws, at most 16, in a buffer. The other kinds make their groups of it: drawing ahead is faster than turning each draw
 // into elements at once.
 pub fn fill_buffer(g: Philox4x32X8, b: &mut [u64; 128], m: usize) -> Fill
-    ensures { λ r. ⌜ Drawn wordsOf nextOf g (min 16 m) (now (b .entry)) (now (b .exit)) (r .draws) (r .rng) ⌝ }
+    ensures { λ r. ⌜ Drawn engine g (min 16 m) (now (b .entry)) (now (b .exit)) (r .draws) (r .rng) ⌝ }
 {
-    fill_first(g, b, groups::room(16, 0, m))
+    fill_first(g, b, words::room(16, 0, m))
 }

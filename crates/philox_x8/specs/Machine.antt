@@ -3,6 +3,7 @@ use mathlib.Core.Bool.{true, false, cond}
 use mathlib.Core.List.{List, [], _∷_}
 use Prim.Native.Nat.{ℕ, _+_, _-_, _*_, _/_, _%_, _^_}
 use lib.ListN.{getD, replicate}
+use Rattle.base.specs.Engine.{Engine}
 use Rattle.base.specs.Table.{table}
 use Rattle.base.specs.Quad.{Quad}
 use Rattle.philox.specs.Philox.{block, groupOf}
@@ -61,6 +62,9 @@ nextOf g = cond (g .waiting) (sought g (g .counter)) (holding g (past (g .counte
 
 unfoldable pub drawn : Philox4x32X8 → Draw
 drawn g = record { words = wordsOf g; rng = nextOf g }
+
+abbrev pub engine : Engine Philox4x32X8
+engine = record { words = wordsOf; next = nextOf }
 
 -- ---- blocks: the four words of the eight blocks at the counter; what waits stays
 unfoldable pub grouped : Philox4x32X8 → Blocks

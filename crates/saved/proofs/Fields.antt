@@ -2,23 +2,16 @@
 use mathlib.Core.Path.{_≡_, refl, sym, ap, ap₂, _∙_}
 use mathlib.Core.List.{List, [], _∷_, _++_}
 use Prim.Native.Nat.{ℕ, zero, suc, _+_, _*_, _/_, _%_, _^_, _<_}
-use native.Mathlib.Nat.{div-lt-iff-lt-mul, add-zero, zero-add, pow-suc, zero-mul, suc-mul, add-assoc, not-suc-le-zero, le-of-suc-le-suc}
+use native.Mathlib.Nat.{add-zero, zero-add, zero-mul, suc-mul, add-assoc, not-suc-le-zero, le-of-suc-le-suc}
 use native.Mathlib.Omega.{arith}
 use lib.Dec.{lit<}
 use lib.ListN.{length, getD, take, drop, length-append, length-drop, take-append-drop, replicate}
 use lib.Seq.{drop-drop, take-at, drop-at, length-take-le, getD-drop}
 use Rattle.base.specs.Bytes.{leBytes, leNat, flat}
-use Rattle.base.proofs.Bytes.{length-leBytes}
+use Rattle.base.proofs.Bytes.{length-leBytes, le-round}
 use Rattle.saved.specs.Fields.{sizeOf, laidOut, fieldsAt, fields}
 
 -- ---- a number and its bytes
-pub le-round : (n x : ℕ) → x < 256 ^ n → leNat (leBytes n x) ≡ x
-le-round zero x h = omega arith
-le-round (suc n) x h =
-    let h′ : x < 256 ^ n * 256 = rw pow-suc at h in
-    let q : x / 256 < 256 ^ n = div-lt-iff-lt-mul (lit< tt) .1 h′ in
-    ap (λ (k : ℕ). x % 256 + 256 * k) (le-round n (x / 256) q) ∙ omega arith
-
 -- every element is a byte
 abbrev pub Bytes : List ℕ → Type 0
 Bytes s = (i : ℕ) → getD s i 0 < 256

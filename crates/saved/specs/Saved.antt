@@ -5,7 +5,7 @@ use mathlib.Core.Path.{_≡_}
 use Prim.Native.Nat.{ℕ}
 use lib.Dec.{eqb}
 use lib.ListN.{length}
-use Rattle.fills.specs.FillBytes.{unless}
+use Rattle.base.specs.Refused.{unless}
 
 -- 1 if a slice has another length than a form of n bytes
 abbrev pub lengthRefusal : ℕ → List ℕ → ℕ

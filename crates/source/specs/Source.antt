@@ -4,6 +4,7 @@ use mathlib.Core.Bool.{cond}
 use mathlib.Core.List.{List}
 use Prim.Native.Nat.{ℕ}
 use lib.Dec.{eqb}
+use Rattle.base.specs.Engine.{Engine}
 use Rattle.philox_x8.specs.Machine.{fresh, wordsOf as philoxWords, nextOf as philoxNext}
 use Rattle.philox_x8.specs.declared.Philox4x32X8.{Philox4x32X8}
 use Rattle.xoshiro_x8.specs.Calls.{placed, blank8, wordsOf as xoshiroWords, nextOf as xoshiroNext}
@@ -19,6 +20,9 @@ wordsOf s = cond (eqb (s .engine) 1) (xoshiroWords (s .xoshiro)) (philoxWords (s
 
 unfoldable pub nextOf : Source → Source
 nextOf s = cond (eqb (s .engine) 1) (sourceOf (s .engine) (xoshiroNext (s .xoshiro)) (s .philox)) (sourceOf (s .engine) (s .xoshiro) (philoxNext (s .philox)))
+
+abbrev pub either : Engine Source
+either = record { words = wordsOf; next = nextOf }
 
 -- before the first draw: block `block` of a seed; or stream `block` of the key `seed`. The generator that isn't used is always the same.
 unfoldable pub startOf : ℕ → ℕ → ℕ → Source

@@ -6,7 +6,7 @@ ghost use Rattle.base.specs.Iterate.{iterate};
 ghost use Rattle.fills.specs.FillBytes.{FilledBytes};
 ghost use Rattle.philox_x8.specs.Machine.{fresh, nextOf as philoxNext};
 ghost use Rattle.xoshiro_x8.specs.Calls.{placed, nextOf as xoshiroNext};
-ghost use Rattle.source.specs.Source.{wordsOf, nextOf, startOf};
+ghost use Rattle.source.specs.Source.{nextOf, startOf, either};
 
 // A generator of one of the two engines: of xoshiro256++ where `engine` is 1, of Philox where it is any other number. The other one is not used.
 pub struct Source {
@@ -77,7 +77,7 @@ pub fn start(engine: u64, seed: u64, block: u64, first: u64) -> Source
 
 // The bytes of the fill of a kind, by its number, or a refusal that changes nothing: the engine's own `fill_bytes`.
 pub fn fill_bytes(s: Source, kind: u64, out: &mut [u8]) -> SourceFill
-    ensures { λ r. ⌜ FilledBytes wordsOf nextOf kind s (now (out .entry)) (now (out .exit)) (r .refusal) (r .draws) (r .source) ⌝ }
+    ensures { λ r. ⌜ FilledBytes either kind s (now (out .entry)) (now (out .exit)) (r .refusal) (r .draws) (r .source) ⌝ }
 {
     let engine = s.engine;
     let of_xoshiro = s.xoshiro;

@@ -2,6 +2,7 @@
 ghost use mathlib.Core.Path.{_≡_};
 ghost use Prim.Native.Nat.{_+_, _*_, _/_, _%_, _^_};
 ghost use Rattle.words.specs.Words.{rotl as rotated};
+ghost use Prim.Native.Nat.{_-_, min};
 
 // `x` rotated to the left by `k` bits. The amount counts modulo 64, so every `k` is allowed.
 pub fn rotl(x: u64, k: u32) -> u64
@@ -49,4 +50,17 @@ pub fn product(a: u32, b: u32) -> u64
     ensures { λ r. ⌜ r ≡ a * b ⌝ }
 {
     (a as u64) * (b as u64)
+}
+
+// The places from `at` on that a slice of length `len` has, at most `most`.
+pub fn room(len: usize, at: usize, most: usize) -> usize
+    ensures { λ r. ⌜ r ≡ min (len - at) most ⌝ }
+{
+    if len <= at {
+        return 0;
+    }
+    if len - at < most {
+        return len - at;
+    }
+    most
 }

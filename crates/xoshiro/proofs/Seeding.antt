@@ -3,13 +3,13 @@ use mathlib.Core.Bool.{Bool, true, false, cond}
 use mathlib.Core.Path.{_≡_, sym, ap, _∙_}
 use Prim.Native.Nat.{ℕ}
 use Rattle.splitmix64.specs.SplitMix64.{started, drawn}
-use Rattle.xoshiro.specs.Xoshiro256pp.{State, allZero, kept, drawnWords}
+use Rattle.xoshiro.specs.Xoshiro256pp.{State, allZero, kept, seedWords}
 use Rattle.splitmix64.specs.declared.SplitMix64.{SplitMix64}
 use Rattle.splitmix64.specs.declared.Draw.{Draw}
 
 pub drawn-words : {seed : ℕ} {g : SplitMix64} {a b c d : Draw} → g ≡ started seed → a ≡ drawn g → b ≡ drawn (a .rng) → c ≡ drawn (b .rng) → d ≡ drawn (c .rng)
-    → _≡_ {A = State} (record { w0 = a .word; w1 = b .word; w2 = c .word; w3 = d .word }) (drawnWords seed)
-unfolding drawnWords drawn
+    → _≡_ {A = State} (record { w0 = a .word; w1 = b .word; w2 = c .word; w3 = d .word }) (seedWords seed)
+unfolding seedWords drawn
 drawn-words eg ea eb ec ed =
     let a = ea ∙ ap drawn eg in
     let b = eb ∙ ap (λ (x : Draw). drawn (x .rng)) a in

@@ -72,12 +72,12 @@ unfoldable pub kept : State → State
 kept s = cond (allZero s) (record { w0 = 1; w1 = s .w1; w2 = s .w2; w3 = s .w3 }) s
 
 -- four words of SplitMix64
-unfoldable pub drawnWords : ℕ → State
-drawnWords seed =
+unfoldable pub seedWords : ℕ → State
+seedWords seed =
     let a = advanced seed in
     let b = advanced a in
     let c = advanced b in
     record { w0 = mixed a; w1 = mixed b; w2 = mixed c; w3 = mixed (advanced c) }
 
 unfoldable pub seeded : ℕ → State
-seeded seed = kept (drawnWords seed)
+seeded seed = kept (seedWords seed)

@@ -3,19 +3,19 @@
 use xoshiro_x8::Xoshiro256ppX8;
 ghost use Prim.Native.Nat.{_/_, min};
 ghost use lib.ListN.{length};
-ghost use Rattle.fills.specs.Buffer.{DrawnAt};
-ghost use Rattle.xoshiro_x8.specs.Calls.{wordsOf, nextOf};
+ghost use Rattle.base.specs.Engine.{DrawnAt};
+ghost use Rattle.xoshiro_x8.specs.Calls.{engine};
 
 // `m` draws, or as many as `out` has room for, their words one after another in the first places.
 pub fn draw_many(g: Xoshiro256ppX8, out: &mut [u64], m: usize) -> Xoshiro256ppX8
-    ensures { λ r. ⌜ DrawnAt wordsOf nextOf g 0 (min (length (now (out .entry)) / 8) m) (now (out .entry)) (now (out .exit)) (min (length (now (out .entry)) / 8) m) r ⌝ }
+    ensures { λ r. ⌜ DrawnAt engine g 0 (min (length (now (out .entry)) / 8) m) (now (out .entry)) (now (out .exit)) (min (length (now (out .entry)) / 8) m) r ⌝ }
 {
-    let n = groups::room(out.len() / 8, 0, m);
+    let n = words::room(out.len() / 8, 0, m);
     let mut rng = g;
     for j in 0..n {
         let d = rng.next_u64x8();
         let w = d.words;
-        groups_u64::put_u64(out, j * 8, w);
+        places::put_u64(out, j * 8, w);
         rng = d.rng;
     }
     rng

@@ -5,7 +5,7 @@ ghost use Rattle.fills.specs.Buffer.{bytesKind};
 ghost use Rattle.fills.specs.Fill.{Filled};
 ghost use Rattle.fills.specs.FillBytes.{FilledBytes};
 ghost use Rattle.fills.specs.Kinds.{u64s, u32s, f32s, f64s, normalF32s, normalF64s, kindAt};
-ghost use Rattle.xoshiro_x8.specs.Calls.{wordsOf, nextOf};
+ghost use Rattle.xoshiro_x8.specs.Calls.{engine};
 
 // The generator after a byte fill; the number of its refusal, or 0, and its draws. (In this order: four words that are moved at once are then
 // words of one row.)
@@ -17,7 +17,7 @@ pub struct ByteFill {
 
 // The bytes of kind 1.
 fn fill_u64(g: Xoshiro256ppX8, out: &mut [u8]) -> Fill
-    ensures { λ r. ⌜ Filled wordsOf nextOf (bytesKind u64s) g (now (out .entry)) (now (out .exit)) (r .draws) (r .rng) ⌝ }
+    ensures { λ r. ⌜ Filled engine (bytesKind u64s) g (now (out .entry)) (now (out .exit)) (r .draws) (r .rng) ⌝ }
 {
     let m = groups::groups_in(out.len(), 64);
     let mut rng = g;
@@ -35,7 +35,7 @@ fn fill_u64(g: Xoshiro256ppX8, out: &mut [u8]) -> Fill
 
 // Kind 2.
 fn fill_u32(g: Xoshiro256ppX8, out: &mut [u8]) -> Fill
-    ensures { λ r. ⌜ Filled wordsOf nextOf (bytesKind u32s) g (now (out .entry)) (now (out .exit)) (r .draws) (r .rng) ⌝ }
+    ensures { λ r. ⌜ Filled engine (bytesKind u32s) g (now (out .entry)) (now (out .exit)) (r .draws) (r .rng) ⌝ }
 {
     let m = groups::groups_in(out.len(), 64);
     let mut rng = g;
@@ -53,7 +53,7 @@ fn fill_u32(g: Xoshiro256ppX8, out: &mut [u8]) -> Fill
 
 // Kind 3.
 fn fill_f32(g: Xoshiro256ppX8, out: &mut [u8]) -> Fill
-    ensures { λ r. ⌜ Filled wordsOf nextOf (bytesKind f32s) g (now (out .entry)) (now (out .exit)) (r .draws) (r .rng) ⌝ }
+    ensures { λ r. ⌜ Filled engine (bytesKind f32s) g (now (out .entry)) (now (out .exit)) (r .draws) (r .rng) ⌝ }
 {
     let m = groups::groups_in(out.len(), 64);
     let mut rng = g;
@@ -71,7 +71,7 @@ fn fill_f32(g: Xoshiro256ppX8, out: &mut [u8]) -> Fill
 
 // Kind 4.
 fn fill_f64(g: Xoshiro256ppX8, out: &mut [u8]) -> Fill
-    ensures { λ r. ⌜ Filled wordsOf nextOf (bytesKind f64s) g (now (out .entry)) (now (out .exit)) (r .draws) (r .rng) ⌝ }
+    ensures { λ r. ⌜ Filled engine (bytesKind f64s) g (now (out .entry)) (now (out .exit)) (r .draws) (r .rng) ⌝ }
 {
     let m = groups::groups_in(out.len(), 64);
     let mut rng = g;
@@ -89,7 +89,7 @@ fn fill_f64(g: Xoshiro256ppX8, out: &mut [u8]) -> Fill
 
 // Kind 5, draw by draw.
 fn fill_normal_f32(g: Xoshiro256ppX8, out: &mut [u8]) -> Fill
-    ensures { λ r. ⌜ Filled wordsOf nextOf (bytesKind normalF32s) g (now (out .entry)) (now (out .exit)) (r .draws) (r .rng) ⌝ }
+    ensures { λ r. ⌜ Filled engine (bytesKind normalF32s) g (now (out .entry)) (now (out .exit)) (r .draws) (r .rng) ⌝ }
 {
     let m = groups::groups_in(out.len(), 64);
     let mut rng = g;
@@ -107,7 +107,7 @@ fn fill_normal_f32(g: Xoshiro256ppX8, out: &mut [u8]) -> Fill
 
 // Kind 6, draw by draw.
 fn fill_normal_f64(g: Xoshiro256ppX8, out: &mut [u8]) -> Fill
-    ensures { λ r. ⌜ Filled wordsOf nextOf (bytesKind normalF64s) g (now (out .entry)) (now (out .exit)) (r .draws) (r .rng) ⌝ }
+    ensures { λ r. ⌜ Filled engine (bytesKind normalF64s) g (now (out .entry)) (now (out .exit)) (r .draws) (r .rng) ⌝ }
 {
     let m = groups::groups_in(out.len(), 128);
     let mut rng = g;
@@ -128,16 +128,16 @@ fn fill_normal_f64(g: Xoshiro256ppX8, out: &mut [u8]) -> Fill
 
 // The bytes of a kind, by way of a buffer of draws: many lanes of normals at a time are faster than eight.
 fn fill_ahead(g: Xoshiro256ppX8, kind: u64, out: &mut [u8]) -> Fill
-    ensures { λ r. ⌜ Filled wordsOf nextOf (bytesKind (kindAt kind .kind)) g (now (out .entry)) (now (out .exit)) (r .draws) (r .rng) ⌝ }
+    ensures { λ r. ⌜ Filled engine (bytesKind (kindAt kind .kind)) g (now (out .entry)) (now (out .exit)) (r .draws) (r .rng) ⌝ }
 {
     let mut rng = g;
     let mut draws: u64 = 0;
     let mut at = 0;
     let mut buf = [0u64; 128];
     while at < out.len() {
-        let m = groups_bytes::draws_ahead(kind, out.len(), at);
+        let m = element_bytes::draws_ahead(kind, out.len(), at);
         let f = xoshiro_words::fill_buffer(rng, &mut buf, m);
-        groups_bytes::map_bytes(kind, out, at, &buf);
+        element_bytes::map_bytes(kind, out, at, &buf);
         rng = f.rng;
         draws += f.draws;
         at += m * 64;
@@ -147,7 +147,7 @@ fn fill_ahead(g: Xoshiro256ppX8, kind: u64, out: &mut [u8]) -> Fill
 
 // The bytes of a kind; called for the normals. A buffer is worth its while from eight draws on.
 fn fill_normals(g: Xoshiro256ppX8, kind: u64, out: &mut [u8]) -> Fill
-    ensures { λ r. ⌜ Filled wordsOf nextOf (bytesKind (kindAt kind .kind)) g (now (out .entry)) (now (out .exit)) (r .draws) (r .rng) ⌝ }
+    ensures { λ r. ⌜ Filled engine (bytesKind (kindAt kind .kind)) g (now (out .entry)) (now (out .exit)) (r .draws) (r .rng) ⌝ }
 {
     if 512 <= out.len() {
         return fill_ahead(g, kind, out);
@@ -163,7 +163,7 @@ fn fill_normals(g: Xoshiro256ppX8, kind: u64, out: &mut [u8]) -> Fill
 
 // The bytes of a kind. (The normals are called with a copy and answer in a copy, so that the generator of the others need not be in memory.)
 fn fill_kind(g: Xoshiro256ppX8, kind: u64, out: &mut [u8]) -> Fill
-    ensures { λ r. ⌜ Filled wordsOf nextOf (bytesKind (kindAt kind .kind)) g (now (out .entry)) (now (out .exit)) (r .draws) (r .rng) ⌝ }
+    ensures { λ r. ⌜ Filled engine (bytesKind (kindAt kind .kind)) g (now (out .entry)) (now (out .exit)) (r .draws) (r .rng) ⌝ }
 {
     if kind == 2 {
         return fill_u32(g, out);
@@ -198,9 +198,9 @@ fn fill_kind(g: Xoshiro256ppX8, kind: u64, out: &mut [u8]) -> Fill
 // The bytes of the fill of a kind, by its number: elements little-endian, floats as their bits. Refused with 4 where `kind` is outside 1 to 6,
 // with 5 where the length isn't a multiple of the kind's width; then nothing changes.
 pub fn fill_bytes(g: Xoshiro256ppX8, kind: u64, out: &mut [u8]) -> ByteFill
-    ensures { λ r. ⌜ FilledBytes wordsOf nextOf kind g (now (out .entry)) (now (out .exit)) (r .refusal) (r .draws) (r .rng) ⌝ }
+    ensures { λ r. ⌜ FilledBytes engine kind g (now (out .entry)) (now (out .exit)) (r .refusal) (r .draws) (r .rng) ⌝ }
 {
-    let refusal = groups_bytes::refusal_of(kind, out.len());
+    let refusal = kinds::refusal_of(kind, out.len());
     if refusal != 0 {
         return ByteFill {
             refusal,

@@ -6,11 +6,11 @@ pub use xoshiro_words::fill_u64;
 use xoshiro_x8::Xoshiro256ppX8;
 ghost use Rattle.fills.specs.Fill.{Filled};
 ghost use Rattle.fills.specs.Kinds.{u32s, f32s, f64s, normalF32s, normalF64s};
-ghost use Rattle.xoshiro_x8.specs.Calls.{wordsOf, nextOf};
+ghost use Rattle.xoshiro_x8.specs.Calls.{engine};
 
 // Kind 2: their low halves, then their high halves.
 pub fn fill_u32(g: Xoshiro256ppX8, out: &mut [u32]) -> Fill
-    ensures { λ r. ⌜ Filled wordsOf nextOf u32s g (now (out .entry)) (now (out .exit)) (r .draws) (r .rng) ⌝ }
+    ensures { λ r. ⌜ Filled engine u32s g (now (out .entry)) (now (out .exit)) (r .draws) (r .rng) ⌝ }
 {
     let m = groups::groups_in(out.len(), 16);
     let mut rng = g;
@@ -28,7 +28,7 @@ pub fn fill_u32(g: Xoshiro256ppX8, out: &mut [u32]) -> Fill
 
 // Kind 3: the units of kind 2.
 pub fn fill_f32(g: Xoshiro256ppX8, out: &mut [f32]) -> Fill
-    ensures { λ r. ⌜ Filled wordsOf nextOf f32s g (now (out .entry)) (now (out .exit)) (r .draws) (r .rng) ⌝ }
+    ensures { λ r. ⌜ Filled engine f32s g (now (out .entry)) (now (out .exit)) (r .draws) (r .rng) ⌝ }
 {
     let m = groups::groups_in(out.len(), 16);
     let mut rng = g;
@@ -46,7 +46,7 @@ pub fn fill_f32(g: Xoshiro256ppX8, out: &mut [f32]) -> Fill
 
 // Kind 4: the units of the words.
 pub fn fill_f64(g: Xoshiro256ppX8, out: &mut [f64]) -> Fill
-    ensures { λ r. ⌜ Filled wordsOf nextOf f64s g (now (out .entry)) (now (out .exit)) (r .draws) (r .rng) ⌝ }
+    ensures { λ r. ⌜ Filled engine f64s g (now (out .entry)) (now (out .exit)) (r .draws) (r .rng) ⌝ }
 {
     let m = groups::groups_in(out.len(), 8);
     let mut rng = g;
@@ -64,7 +64,7 @@ pub fn fill_f64(g: Xoshiro256ppX8, out: &mut [f64]) -> Fill
 
 // Kind 5, draw by draw.
 fn fill_normal_f32_plain(g: Xoshiro256ppX8, out: &mut [f32]) -> Fill
-    ensures { λ r. ⌜ Filled wordsOf nextOf normalF32s g (now (out .entry)) (now (out .exit)) (r .draws) (r .rng) ⌝ }
+    ensures { λ r. ⌜ Filled engine normalF32s g (now (out .entry)) (now (out .exit)) (r .draws) (r .rng) ⌝ }
 {
     let m = groups::groups_in(out.len(), 16);
     let mut rng = g;
@@ -82,7 +82,7 @@ fn fill_normal_f32_plain(g: Xoshiro256ppX8, out: &mut [f32]) -> Fill
 
 // Kind 5, by way of a buffer of draws: 64 lanes at a time are faster than eight.
 fn fill_normal_f32_ahead(g: Xoshiro256ppX8, out: &mut [f32]) -> Fill
-    ensures { λ r. ⌜ Filled wordsOf nextOf normalF32s g (now (out .entry)) (now (out .exit)) (r .draws) (r .rng) ⌝ }
+    ensures { λ r. ⌜ Filled engine normalF32s g (now (out .entry)) (now (out .exit)) (r .draws) (r .rng) ⌝ }
 {
     let mut rng = g;
     let mut draws: u64 = 0;
@@ -101,7 +101,7 @@ fn fill_normal_f32_ahead(g: Xoshiro256ppX8, out: &mut [f32]) -> Fill
 
 // Kind 5: normals, from the halves of each word. A buffer is worth its while from 64 lanes on.
 pub fn fill_normal_f32(g: Xoshiro256ppX8, out: &mut [f32]) -> Fill
-    ensures { λ r. ⌜ Filled wordsOf nextOf normalF32s g (now (out .entry)) (now (out .exit)) (r .draws) (r .rng) ⌝ }
+    ensures { λ r. ⌜ Filled engine normalF32s g (now (out .entry)) (now (out .exit)) (r .draws) (r .rng) ⌝ }
 {
     if out.len() < 128 {
         return fill_normal_f32_plain(g, out);
@@ -111,7 +111,7 @@ pub fn fill_normal_f32(g: Xoshiro256ppX8, out: &mut [f32]) -> Fill
 
 // Kind 6, draw by draw.
 fn fill_normal_f64_plain(g: Xoshiro256ppX8, out: &mut [f64]) -> Fill
-    ensures { λ r. ⌜ Filled wordsOf nextOf normalF64s g (now (out .entry)) (now (out .exit)) (r .draws) (r .rng) ⌝ }
+    ensures { λ r. ⌜ Filled engine normalF64s g (now (out .entry)) (now (out .exit)) (r .draws) (r .rng) ⌝ }
 {
     let m = groups::groups_in(out.len(), 16);
     let mut rng = g;
@@ -132,7 +132,7 @@ fn fill_normal_f64_plain(g: Xoshiro256ppX8, out: &mut [f64]) -> Fill
 
 // Kind 6, by way of a buffer of draws: 32 lanes at a time are faster than eight.
 fn fill_normal_f64_ahead(g: Xoshiro256ppX8, out: &mut [f64]) -> Fill
-    ensures { λ r. ⌜ Filled wordsOf nextOf normalF64s g (now (out .entry)) (now (out .exit)) (r .draws) (r .rng) ⌝ }
+    ensures { λ r. ⌜ Filled engine normalF64s g (now (out .entry)) (now (out .exit)) (r .draws) (r .rng) ⌝ }
 {
     let mut rng = g;
     let mut draws: u64 = 0;
@@ -151,7 +151,7 @@ fn fill_normal_f64_ahead(g: Xoshiro256ppX8, out: &mut [f64]) -> Fill
 
 // Kind 6: normals, from the words of two draws. A buffer is worth its while from 32 lanes on.
 pub fn fill_normal_f64(g: Xoshiro256ppX8, out: &mut [f64]) -> Fill
-    ensures { λ r. ⌜ Filled wordsOf nextOf normalF64s g (now (out .entry)) (now (out .exit)) (r .draws) (r .rng) ⌝ }
+    ensures { λ r. ⌜ Filled engine normalF64s g (now (out .entry)) (now (out .exit)) (r .draws) (r .rng) ⌝ }
 {
     if out.len() < 64 {
         return fill_normal_f64_plain(g, out);

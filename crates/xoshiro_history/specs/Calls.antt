@@ -5,7 +5,7 @@ use mathlib.Core.Path.{_≡_}
 use Prim.Native.Nat.{ℕ}
 use Rattle.fills.specs.Fill.{Kind, Filled}
 use Rattle.fills.specs.FillBytes.{FilledBytes}
-use Rattle.xoshiro_x8.specs.Calls.{wordsOf, nextOf, drawn, movedBlocks}
+use Rattle.xoshiro_x8.specs.Calls.{drawn, movedBlocks, engine}
 use Rattle.xoshiro_x8.specs.declared.Draw.{Draw}
 use Rattle.xoshiro_x8.specs.declared.Placed.{Placed}
 use Rattle.xoshiro_x8.specs.declared.Xoshiro256ppX8.{Xoshiro256ppX8}
@@ -23,8 +23,8 @@ pub data Call : Type 1 where
 -- what the function promises of the call on the generator g: its `ensures`, word for word (proofs/Bridge.antt)
 abbrev pub Step : Xoshiro256ppX8 → Call → Type 0
 Step g (draw r) = r ≡ drawn g
-Step g (fill K before after r) = Filled wordsOf nextOf K g before after (r .draws) (r .rng)
-Step g (bytes k before after r) = FilledBytes wordsOf nextOf k g before after (r .refusal) (r .draws) (r .rng)
+Step g (fill K before after r) = Filled engine K g before after (r .draws) (r .rng)
+Step g (bytes k before after r) = FilledBytes engine k g before after (r .refusal) (r .draws) (r .rng)
 Step g (move n r) = r ≡ movedBlocks n g
 
 -- the generator that the call handed back

@@ -3,9 +3,10 @@ use mathlib.Core.List.{List, [], _∷_}
 use mathlib.Core.Path.{_≡_}
 use Prim.Native.Nat.{ℕ, _+_, _<_}
 use lib.ListN.{length}
+use Rattle.base.specs.Refused.{unless}
 use Rattle.base.specs.Table.{table}
 use Rattle.fills.specs.Fill.{drawsFor}
-use Rattle.fills.specs.FillBytes.{refusalOf, bytesDraws, unless}
+use Rattle.fills.specs.FillBytes.{refusalOf, bytesDraws}
 use Rattle.fills.specs.Handed.{RightFill, RightBytes}
 use Rattle.xoshiro.specs.Xoshiro256pp.{State, output, steps, jumps, seeded}
 use Rattle.xoshiro_x8.specs.Lanes.{laneOf}

@@ -17,7 +17,7 @@ use Rattle.saved.proofs.Bounds.{Small, table-below, field-below}
 use Rattle.saved.proofs.Fields.{Bytes}
 use Rattle.splitmix64.specs.SplitMix64.{mixed, mixStep}
 use Rattle.words.specs.Words.{shl, rotl, xorShr}
-use Rattle.xoshiro.specs.Xoshiro256pp.{State, step, steps, plus, none, bitOf, times, summed, jumped, jumpPoly, jumps, allZero, kept, drawnWords, seeded}
+use Rattle.xoshiro.specs.Xoshiro256pp.{State, step, steps, plus, none, bitOf, times, summed, jumped, jumpPoly, jumps, allZero, kept, seedWords, seeded}
 use Rattle.xoshiro_rows.specs.Lanes.{stepped}
 use Rattle.xoshiro_x8.specs.Calls.{nextOf, blockJumps, placed, movedBlocks}
 use Rattle.xoshiro_x8.specs.Lanes.{laneOf, ofStates}
@@ -84,10 +84,10 @@ small-mixed z =
     xor-lt 64 y (y / 2 ^ 31) h (omega arith)
 
 small-seeded : (seed : ℕ) → Word64s (seeded seed)
-unfolding seeded kept drawnWords
-small-seeded seed = go (allZero (drawnWords seed))
+unfolding seeded kept seedWords
+small-seeded seed = go (allZero (seedWords seed))
   where
-    go : (b : Bool) → Word64s (cond b (record { w0 = 1; w1 = drawnWords seed .w1; w2 = drawnWords seed .w2; w3 = drawnWords seed .w3 }) (drawnWords seed))
+    go : (b : Bool) → Word64s (cond b (record { w0 = 1; w1 = seedWords seed .w1; w2 = seedWords seed .w2; w3 = seedWords seed .w3 }) (seedWords seed))
     go true = record { w0 = lit< tt; w1 = small-mixed _; w2 = small-mixed _; w3 = small-mixed _ }
     go false = record { w0 = small-mixed _; w1 = small-mixed _; w2 = small-mixed _; w3 = small-mixed _ }
 

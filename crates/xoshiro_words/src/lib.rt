@@ -1,10 +1,10 @@
 // Fills of words of the eight-lane xoshiro256++: kind 1, and the words that the fills of the other kinds are made of.
 use xoshiro_x8::Xoshiro256ppX8;
 ghost use Prim.Native.Nat.{min};
-ghost use Rattle.fills.specs.Buffer.{Drawn};
+ghost use Rattle.base.specs.Engine.{Drawn};
 ghost use Rattle.fills.specs.Fill.{Filled};
 ghost use Rattle.fills.specs.Kinds.{u64s};
-ghost use Rattle.xoshiro_x8.specs.Calls.{wordsOf, nextOf};
+ghost use Rattle.xoshiro_x8.specs.Calls.{engine};
 
 // The generator after a fill, and the draws that it made. (In this order: four words that are moved at once are then words of one row.)
 pub struct Fill {
@@ -14,14 +14,14 @@ pub struct Fill {
 
 // Kind 1: the words.
 pub fn fill_u64(g: Xoshiro256ppX8, out: &mut [u64]) -> Fill
-    ensures { λ r. ⌜ Filled wordsOf nextOf u64s g (now (out .entry)) (now (out .exit)) (r .draws) (r .rng) ⌝ }
+    ensures { λ r. ⌜ Filled engine u64s g (now (out .entry)) (now (out .exit)) (r .draws) (r .rng) ⌝ }
 {
     let m = groups::groups_in(out.len(), 8);
     let mut rng = g;
     for j in 0..m {
         let d = rng.next_u64x8();
         let w = d.words;
-        groups_u64::put_u64(out, j * 8, w);
+        places::put_u64(out, j * 8, w);
         rng = d.rng;
     }
     Fill {
@@ -32,9 +32,9 @@ pub fn fill_u64(g: Xoshiro256ppX8, out: &mut [u64]) -> Fill
 
 // The words of `m` draws, at most 16, in a buffer. The normals make their groups of it: many lanes at a time are faster than eight.
 pub fn fill_buffer(g: Xoshiro256ppX8, b: &mut [u64; 128], m: usize) -> Fill
-    ensures { λ r. ⌜ Drawn wordsOf nextOf g (min 16 m) (now (b .entry)) (now (b .exit)) (r .draws) (r .rng) ⌝ }
+    ensures { λ r. ⌜ Drawn engine g (min 16 m) (now (b .entry)) (now (b .exit)) (r .draws) (r .rng) ⌝ }
 {
-    let n = groups::room(16, 0, m);
+    let n = words::room(16, 0, m);
     let rng = xoshiro_draws::draw_many(g, b, n);
     Fill {
         rng,

@@ -4,6 +4,7 @@ use mathlib.Core.Bool.{Bool, cond, not}
 use Prim.Native.Nat.{ℕ, _+_, _*_, _%_, _^_}
 use lib.Dec.{ltb}
 use lib.ListN.{getD, replicate}
+use Rattle.base.specs.Engine.{Engine}
 use Rattle.base.specs.Every.{every}
 use Rattle.xoshiro.specs.Xoshiro256pp.{jumps, seeded, allZero}
 use Rattle.xoshiro.specs.Calls.{stateOf, generator, accepted, refused}
@@ -25,6 +26,9 @@ nextOf g = ofRows (stepped (rowsIn g))
 
 unfoldable pub drawn : Xoshiro256ppX8 → Draw
 drawn g = record { words = wordsOf g; rng = nextOf g }
+
+abbrev pub engine : Engine Xoshiro256ppX8
+engine = record { words = wordsOf; next = nextOf }
 
 -- ---- from_seed_block and jump_blocks: n blocks are 8 n modulo 2 ^ 64 jumps, the call's part of J
 abbrev pub blockJumps : ℕ → ℕ

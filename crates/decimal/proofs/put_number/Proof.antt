@@ -1,8 +1,8 @@
 -- `decimal::put_number` meets its contract.
 use mathlib.Core.Path.{sym, _∙_}
 use borrow.Author.Tests.{leb-true, not-true, not-false}
+use Rattle.base.proofs.Put.{given-no}
 use Rattle.decimal.proofs.Backward.{word-no, word-put}
-use Rattle.decimal.proofs.Put.{given-no}
 use borrow.Author.Needs.{needs}
 use Rattle.decimal.proofs.put_number.Statement.{statement}
 use Rattle.decimal.proofs.put_number.Tie as tie

@@ -1,6 +1,7 @@
 -- `girderpeach::gp_xoshiro_jump_blocks` meets its contract.
+use Rattle.base.proofs.Refused.{unless-some, unless-none}
 use Rattle.girderpeach.proofs.Engines.{xoshiro-sound}
-use Rattle.girderpeach.proofs.Host.{few-form, called-refused, called-done, saved-form, unless-some, unless-none}
+use Rattle.girderpeach.proofs.Host.{few-form, called-refused, called-done, saved-form}
 use Rattle.xoshiro_saved.specs.Form.{formOf}
 use Rattle.xoshiro_x8.specs.Calls.{movedBlocks}
 use borrow.Author.Needs.{needs}

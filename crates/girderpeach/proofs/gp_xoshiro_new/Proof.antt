@@ -1,5 +1,6 @@
 -- `girderpeach::gp_xoshiro_new` meets its contract.
-use Rattle.girderpeach.proofs.Host.{called-refused, called-done, length-no, length-yes, saved-form, unless-some, unless-none}
+use Rattle.base.proofs.Refused.{unless-some, unless-none}
+use Rattle.girderpeach.proofs.Host.{called-refused, called-done, length-no, length-yes, saved-form}
 use Rattle.xoshiro_saved.specs.Form.{formOf}
 use borrow.Author.Needs.{needs}
 use denote.Ref.{now}

@@ -1,7 +1,7 @@
 -- `groups::draw_of` meets its contract.
 use Prim.Native.Nat.{_+_, _-_, _*_, _%_}
+use Rattle.base.specs.Engine.{drawOf}
 use Rattle.base.proofs.Table.{Tabled, tabled-none, tabled-more, tabled-end}
-use Rattle.fills.specs.Buffer.{drawOf}
 use lib.ListN.{getD}
 use mathlib.Core.Path.{refl}
 use native.Mathlib.Omega.{arith}

@@ -1,7 +1,8 @@
 -- `groups_f32::map_bytes` meets its contract.
 use Prim.Native.Nat.{_-_}
+use Rattle.base.specs.Engine.{drawOf}
 use Rattle.fills.proofs.Buffered.{Grouping, group-none, group-more, group-end}
-use Rattle.fills.specs.Buffer.{bytesKind, drawOf, groupsAhead}
+use Rattle.fills.specs.Buffer.{bytesKind, groupsAhead}
 use Rattle.fills.specs.Kinds.{f32s}
 use borrow.Author.Needs.{needs}
 use lib.ListN.{length}

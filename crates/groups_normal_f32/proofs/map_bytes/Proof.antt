@@ -4,9 +4,10 @@ use borrow.Author.Needs.{needs}
 use mathlib.Core.List.{List}
 use mathlib.Core.Path.{ap, _∙_}
 use native.Mathlib.Omega.{arith}
+use Rattle.base.specs.Engine.{drawOf}
 use Rattle.fills.proofs.Buffered.{Grouping, group-none, group-more, group-end}
 use Rattle.fills.proofs.Runs.{group-run}
-use Rattle.fills.specs.Buffer.{bytesKind, drawOf, storedGroups}
+use Rattle.fills.specs.Buffer.{bytesKind, storedGroups}
 use Rattle.fills.specs.Kinds.{normalF32s}
 use Rattle.groups_normal_f32.proofs.map_bytes.Statement.{statement}
 use Rattle.groups_normal_f32.proofs.map_bytes.Tie as tie

@@ -5,9 +5,10 @@ use lib.Ieee.{Float}
 use mathlib.Core.List.{List}
 use mathlib.Core.Path.{ap, _∙_}
 use native.Mathlib.Omega.{arith}
+use Rattle.base.specs.Engine.{drawOf}
 use Rattle.fills.proofs.Buffered.{Grouping, group-none, group-more, group-end}
 use Rattle.fills.proofs.Runs.{group-run}
-use Rattle.fills.specs.Buffer.{drawOf, storedGroups}
+use Rattle.fills.specs.Buffer.{storedGroups}
 use Rattle.fills.specs.Kinds.{normalF32s}
 use Rattle.groups_normal_f32.proofs.map_normal_f32.Statement.{statement}
 use Rattle.groups_normal_f32.proofs.map_normal_f32.Tie as tie

@@ -5,10 +5,11 @@ use lib.Ieee.{binary64}
 use mathlib.Core.List.{List}
 use mathlib.Core.Path.{ap, ap₂, _∙_}
 use native.Mathlib.Omega.{arith}
+use Rattle.base.specs.Engine.{drawOf}
 use Rattle.base.specs.Bytes.{flat}
 use Rattle.fills.proofs.Buffered.{Grouping, group-none, group-more, group-end}
 use Rattle.fills.proofs.Runs.{group-run}
-use Rattle.fills.specs.Buffer.{bytesKind, drawOf, storedGroups}
+use Rattle.fills.specs.Buffer.{bytesKind, storedGroups}
 use Rattle.fills.specs.FillBytes.{bytesOf}
 use Rattle.fills.specs.Kinds.{normalF64s, normalsOf}
 use Rattle.groups_normal_f64.proofs.map_bytes.Statement.{statement}

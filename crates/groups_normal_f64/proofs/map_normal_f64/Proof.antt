@@ -5,9 +5,10 @@ use lib.Ieee.{Float, binary64}
 use mathlib.Core.List.{List}
 use mathlib.Core.Path.{ap, ap₂, _∙_}
 use native.Mathlib.Omega.{arith}
+use Rattle.base.specs.Engine.{drawOf}
 use Rattle.fills.proofs.Buffered.{Grouping, group-none, group-more, group-end}
 use Rattle.fills.proofs.Runs.{group-run}
-use Rattle.fills.specs.Buffer.{drawOf, storedGroups}
+use Rattle.fills.specs.Buffer.{storedGroups}
 use Rattle.fills.specs.Kinds.{normalF64s, normalsOf}
 use Rattle.groups_normal_f64.proofs.map_normal_f64.Statement.{statement}
 use Rattle.groups_normal_f64.proofs.map_normal_f64.Tie as tie

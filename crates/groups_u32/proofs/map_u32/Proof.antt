@@ -1,7 +1,8 @@
 -- `groups_u32::map_u32` meets its contract.
 use Prim.Native.Nat.{_-_}
+use Rattle.base.specs.Engine.{drawOf}
 use Rattle.fills.proofs.Buffered.{Grouping, group-none, group-more, group-end}
-use Rattle.fills.specs.Buffer.{drawOf, groupsAhead}
+use Rattle.fills.specs.Buffer.{groupsAhead}
 use Rattle.fills.specs.Kinds.{u32s}
 use borrow.Author.Needs.{needs}
 use lib.ListN.{length}

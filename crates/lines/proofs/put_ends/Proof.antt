@@ -2,7 +2,7 @@
 use mathlib.Core.Path.{refl}
 use native.Mathlib.Omega.{arith}
 use borrow.Author.Tests.{le-leb, lt-leb}
-use Rattle.decimal.proofs.Put.{put-length, given-yes, given-no}
+use Rattle.base.proofs.Put.{put-length, given-yes, given-no}
 use Rattle.lines.proofs.Laws.{counts, ends-put}
 use borrow.Author.Needs.{needs}
 use Rattle.lines.proofs.put_ends.Statement.{statement}

@@ -4,7 +4,7 @@ use Prim.Native.Nat.{ℕ, _-_, _/_, _<_}
 use native.Mathlib.Omega.{arith}
 use borrow.Author.Needs.{needs}
 use lib.ListN.{length}
-use Rattle.decimal.proofs.Put.{given-yes, given-no}
+use Rattle.base.proofs.Put.{given-yes, given-no}
 use Rattle.lines.proofs.Laws.{Going, going-start, going-more, going-room, going-end, going-counts, refused-kind, refused-room, all-accepted}
 use Rattle.lines.proofs.put_lines.Statement.{statement}
 use Rattle.lines.proofs.put_lines.Tie as tie

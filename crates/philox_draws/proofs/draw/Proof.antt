@@ -1,5 +1,5 @@
 -- `philox_draws::draw` meets its contract.
-use Rattle.fills.specs.Buffer.{drawOf}
+use Rattle.base.specs.Engine.{drawOf}
 use Rattle.philox_x8.proofs.Machine.{drawn-waiting}
 use borrow.Author.Needs.{needs}
 use lib.ListN.{length}

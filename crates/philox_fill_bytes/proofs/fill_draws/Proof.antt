@@ -6,9 +6,9 @@ use Rattle.fills.proofs.Draws.{Turning, turns-none, one-draw, turns-end}
 use Rattle.fills.specs.Buffer.{bytesKind}
 use Rattle.fills.specs.Fill.{roundUp}
 use Rattle.fills.specs.Kinds.{kindAt}
-use Rattle.groups_bytes.proofs.Numbers.{single}
+use Rattle.element_bytes.proofs.Numbers.{single}
 use Rattle.philox_x8.proofs.Theorems.{eight-words}
-use Rattle.philox_x8.specs.Machine.{wordsOf, nextOf, drawn}
+use Rattle.philox_x8.specs.Machine.{drawn, engine}
 use Rattle.philox_x8.specs.declared.Draw.{Draw}
 use borrow.Author.Needs.{needs}
 use mathlib.Core.Path.{sym, ap, _∙_}
@@ -17,7 +17,7 @@ use Rattle.philox_fill_bytes.proofs.fill_draws.Statement.{statement}
 use Rattle.philox_fill_bytes.proofs.fill_draws.Tie as tie
 
 abbrev Inv-loop : tie.InvT-loop
-Inv-loop kind out₀ m rng₀ j₀ out rng j = Turning wordsOf nextOf (bytesKind (kindAt kind .kind)) rng₀ out₀ m out j rng
+Inv-loop kind out₀ m rng₀ j₀ out rng j = Turning engine (bytesKind (kindAt kind .kind)) rng₀ out₀ m out j rng
 
 abbrev μ-loop : tie.MeasureT-loop
 μ-loop kind out₀ m rng₀ j₀ out rng j = m - j

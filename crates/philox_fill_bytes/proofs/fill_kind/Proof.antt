@@ -1,6 +1,6 @@
 -- `philox_fill_bytes::fill_kind` meets its contract.
 use Rattle.fills.specs.Kinds.{kindAt}
-use Rattle.groups_bytes.proofs.Parts.{by-number}
+use Rattle.element_bytes.proofs.Parts.{by-number}
 use borrow.Author.Needs.{needs}
 use Rattle.philox_fill_bytes.proofs.fill_kind.Statement.{statement}
 use Rattle.philox_fill_bytes.proofs.fill_kind.Tie as tie

@@ -4,7 +4,7 @@ use Rattle.fills.proofs.Draws.{Turning, turns-none, one-draw, turns-end}
 use Rattle.fills.proofs.Sounds.{f64s-sound}
 use Rattle.fills.specs.Kinds.{f64s}
 use Rattle.philox_x8.proofs.Theorems.{eight-words}
-use Rattle.philox_x8.specs.Machine.{wordsOf, nextOf, drawn}
+use Rattle.philox_x8.specs.Machine.{drawn, engine}
 use Rattle.philox_x8.specs.declared.Draw.{Draw}
 use borrow.Author.Needs.{needs}
 use mathlib.Core.Path.{refl, ap}
@@ -12,7 +12,7 @@ use Rattle.philox_fills.proofs.fill_f64_plain.Statement.{statement}
 use Rattle.philox_fills.proofs.fill_f64_plain.Tie as tie
 
 abbrev Inv-loop : tie.InvT-loop
-Inv-loop out₀ m rng₀ j₀ out rng j = Turning wordsOf nextOf f64s rng₀ out₀ m out j rng
+Inv-loop out₀ m rng₀ j₀ out rng j = Turning engine f64s rng₀ out₀ m out j rng
 
 abbrev μ-loop : tie.MeasureT-loop
 μ-loop out₀ m rng₀ j₀ out rng j = m - j

@@ -6,7 +6,7 @@ use Rattle.fills.proofs.Sounds.{normal-f64s-sound}
 use Rattle.fills.specs.Buffer.{storedGroups}
 use Rattle.fills.specs.Kinds.{normalF64s}
 use Rattle.philox_x8.proofs.Theorems.{eight-words}
-use Rattle.philox_x8.specs.Machine.{wordsOf, nextOf}
+use Rattle.philox_x8.specs.Machine.{engine}
 use borrow.Author.Needs.{needs}
 use lib.ListN.{length}
 use mathlib.Core.Path.{sym, ap, _∙_}
@@ -15,7 +15,7 @@ use Rattle.philox_fills.proofs.fill_normal_f64_ahead.Statement.{stateme
 use Rattle.philox_fills.proofs.fill_normal_f64_ahead.Tie as tie
 
 abbrev Inv-loop : tie.InvT-loop
-Inv-loop out₀ rng₀ draws₀ at₀ buf₀ out rng draws at buf = Filling wordsOf nextOf normalF64s rng₀ out₀ out at draws rng
+Inv-loop out₀ rng₀ draws₀ at₀ buf₀ out rng draws at buf = Filling engine normalF64s rng₀ out₀ out at draws rng
 
 abbrev μ-loop : tie.MeasureT-loop
 μ-loop out₀ rng₀ draws₀ at₀ buf₀ out rng draws at buf = length out₀ - at

@@ -6,7 +6,7 @@ use Rattle.fills.proofs.Sounds.{u64s-sound}
 use Rattle.fills.specs.Kinds.{u64s}
 use Rattle.philox_draws.proofs.Draws.{drawn-some}
 use Rattle.philox_x8.proofs.Theorems.{eight-words}
-use Rattle.philox_x8.specs.Machine.{wordsOf, nextOf}
+use Rattle.philox_x8.specs.Machine.{engine}
 use borrow.Author.Needs.{needs}
 use lib.ListN.{length}
 use native.Mathlib.Omega.{arith}
@@ -14,7 +14,7 @@ use Rattle.philox_words.proofs.fill_u64.Statement.{statement}
 use Rattle.philox_words.proofs.fill_u64.Tie as tie
 
 abbrev Inv-loop : tie.InvT-loop
-Inv-loop out₀ rng₀ draws₀ at₀ out rng draws at = (at ≤ length out₀) × Filling wordsOf nextOf u64s rng₀ out₀ out at draws rng
+Inv-loop out₀ rng₀ draws₀ at₀ out rng draws at = (at ≤ length out₀) × Filling engine u64s rng₀ out₀ out at draws rng
 
 abbrev μ-loop : tie.MeasureT-loop
 μ-loop out₀ rng₀ draws₀ at₀ out rng draws at = length out₀ - at

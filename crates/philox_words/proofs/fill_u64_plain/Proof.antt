@@ -5,7 +5,7 @@ use Rattle.fills.proofs.Filling.{Filling, start, more, finish}
 use Rattle.fills.proofs.Sounds.{u64s-sound}
 use Rattle.fills.specs.Kinds.{u64s}
 use Rattle.philox_x8.proofs.Theorems.{eight-words}
-use Rattle.philox_x8.specs.Machine.{wordsOf, nextOf, drawn}
+use Rattle.philox_x8.specs.Machine.{drawn, engine}
 use Rattle.philox_x8.specs.declared.Draw.{Draw}
 use borrow.Author.Needs.{needs}
 use lib.ListN.{length}
@@ -14,7 +14,7 @@ use Rattle.philox_words.proofs.fill_u64_plain.Statement.{statement}
 use Rattle.philox_words.proofs.fill_u64_plain.Tie as tie
 
 abbrev Inv-loop : tie.InvT-loop
-Inv-loop out₀ rng₀ draws₀ at₀ out rng draws at = Filling wordsOf nextOf u64s rng₀ out₀ out at draws rng
+Inv-loop out₀ rng₀ draws₀ at₀ out rng draws at = Filling engine u64s rng₀ out₀ out at draws rng
 
 abbrev μ-loop : tie.MeasureT-loop
 μ-loop out₀ rng₀ draws₀ at₀ out rng draws at = length out₀ - at

@@ -1,11 +1,11 @@
 -- `xoshiro_draws::draw_many` meets its contract.
 use Prim.Native.Nat.{ℕ, _+_, _-_, _*_, _≤_}
+use Rattle.base.proofs.Engine.{none-drawn, drawn-more}
+use Rattle.base.specs.Engine.{DrawnAt}
 use Rattle.base.proofs.Stored.{length-stored}
 use Rattle.base.specs.Stored.{stored}
-use Rattle.fills.proofs.Ahead.{none-drawn, drawn-more}
-use Rattle.fills.specs.Buffer.{DrawnAt}
 use Rattle.xoshiro_x8.proofs.Theorems.{eight-words}
-use Rattle.xoshiro_x8.specs.Calls.{wordsOf, nextOf, drawn}
+use Rattle.xoshiro_x8.specs.Calls.{drawn, engine}
 use Rattle.xoshiro_x8.specs.declared.Draw.{Draw}
 use borrow.Author.Needs.{needs}
 use lib.ListN.{length}
@@ -15,7 +15,7 @@ use Rattle.xoshiro_draws.proofs.draw_many.Statement.{statement}
 use Rattle.xoshiro_draws.proofs.draw_many.Tie as tie
 
 abbrev Inv-loop : tie.InvT-loop
-Inv-loop out₀ m n rng₀ j₀ out rng j = (j ≤ n) × (length out ≡ length out₀) × DrawnAt wordsOf nextOf rng₀ 0 j out₀ out j rng
+Inv-loop out₀ m n rng₀ j₀ out rng j = (j ≤ n) × (length out ≡ length out₀) × DrawnAt engine rng₀ 0 j out₀ out j rng
 
 abbrev μ-loop : tie.MeasureT-loop
 μ-loop out₀ m n rng₀ j₀ out rng j = n - j
@@ -38,7 +38,7 @@ returns : tie.Need-returns Inv-loop μ-loop
 returns c =
     let l = c .before in
     let a = l .before .before .before .args in
-    subst (λ (n : ℕ). DrawnAt wordsOf nextOf (a .g) 0 n (a .out .now) (l .loop .out) n (l .loop .rng)) (search needs) (l .loop .inv .2)
+    subst (λ (n : ℕ). DrawnAt engine (a .g) 0 n (a .out .now) (l .loop .out) n (l .loop .rng)) (search needs) (l .loop .inv .2)
 
 pub draw-many-spec : {M : Type 1} → statement M
 draw-many-spec = tie.close (tie.spec Inv-loop μ-loop (λ c κs. search needs) (λ c. (search needs, refl, none-drawn refl)) (λ c κs. search needs) (λ c. search needs) (λ c κs. search needs) (λ c. search needs) (λ c. search needs) loop-again (λ c. search needs) returns)

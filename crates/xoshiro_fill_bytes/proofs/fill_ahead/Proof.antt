@@ -5,9 +5,9 @@ use Rattle.fills.proofs.Bytes.{row-sound}
 use Rattle.fills.proofs.Filling.{Filling, start, same-place, finish}
 use Rattle.fills.specs.Buffer.{bytesKind, groupsAhead}
 use Rattle.fills.specs.Kinds.{kindAt}
-use Rattle.groups_bytes.proofs.Numbers.{ahead}
+use Rattle.element_bytes.proofs.Numbers.{ahead}
 use Rattle.xoshiro_x8.proofs.Theorems.{eight-words}
-use Rattle.xoshiro_x8.specs.Calls.{wordsOf, nextOf}
+use Rattle.xoshiro_x8.specs.Calls.{engine}
 use borrow.Author.Needs.{needs}
 use lib.ListN.{length}
 use mathlib.Core.Path.{_≡_, refl, ap, _∙_}
@@ -16,7 +16,7 @@ use Rattle.xoshiro_fill_bytes.proofs.fill_ahead.Statement.{statement}
 use Rattle.xoshiro_fill_bytes.proofs.fill_ahead.Tie as tie
 
 abbrev Inv-loop : tie.InvT-loop
-Inv-loop kind out₀ rng₀ draws₀ at₀ buf₀ out rng draws at buf = Filling wordsOf nextOf (bytesKind (kindAt kind .kind)) rng₀ out₀ out at draws rng
+Inv-loop kind out₀ rng₀ draws₀ at₀ buf₀ out rng draws at buf = Filling engine (bytesKind (kindAt kind .kind)) rng₀ out₀ out at draws rng
 
 abbrev μ-loop : tie.MeasureT-loop
 μ-loop kind out₀ rng₀ draws₀ at₀ buf₀ out rng draws at buf = length out₀ - at

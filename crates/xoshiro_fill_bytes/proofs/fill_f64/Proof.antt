@@ -6,7 +6,7 @@ use Rattle.fills.proofs.Sounds.{f64s-sound}
 use Rattle.fills.specs.Buffer.{bytesKind}
 use Rattle.fills.specs.Kinds.{f64s}
 use Rattle.xoshiro_x8.proofs.Theorems.{eight-words}
-use Rattle.xoshiro_x8.specs.Calls.{wordsOf, nextOf, drawn}
+use Rattle.xoshiro_x8.specs.Calls.{drawn, engine}
 use Rattle.xoshiro_x8.specs.declared.Draw.{Draw}
 use borrow.Author.Needs.{needs}
 use mathlib.Core.Path.{refl, ap}
@@ -15,7 +15,7 @@ use Rattle.xoshiro_fill_bytes.proofs.fill_f64.Statement.{statement}
 use Rattle.xoshiro_fill_bytes.proofs.fill_f64.Tie as tie
 
 abbrev Inv-loop : tie.InvT-loop
-Inv-loop out₀ m rng₀ j₀ out rng j = Turning wordsOf nextOf (bytesKind f64s) rng₀ out₀ m out j rng
+Inv-loop out₀ m rng₀ j₀ out rng j = Turning engine (bytesKind f64s) rng₀ out₀ m out j rng
 
 abbrev μ-loop : tie.MeasureT-loop
 μ-loop out₀ m rng₀ j₀ out rng j = m - j

@@ -1,6 +1,6 @@
 -- `xoshiro_fill_bytes::fill_kind` meets its contract.
 use Rattle.fills.specs.Kinds.{kindAt}
-use Rattle.groups_bytes.proofs.Parts.{by-number, by-other}
+use Rattle.element_bytes.proofs.Parts.{by-number, by-other}
 use borrow.Author.Needs.{needs}
 use Rattle.xoshiro_fill_bytes.proofs.fill_kind.Statement.{statement}
 use Rattle.xoshiro_fill_bytes.proofs.fill_kind.Tie as tie

@@ -1,6 +1,6 @@
 -- `xoshiro_fill_bytes::fill_normals` meets its contract.
 use Rattle.fills.specs.Kinds.{kindAt}
-use Rattle.groups_bytes.proofs.Parts.{by-number}
+use Rattle.element_bytes.proofs.Parts.{by-number}
 use borrow.Author.Needs.{needs}
 use Rattle.xoshiro_fill_bytes.proofs.fill_normals.Statement.{statement}
 use Rattle.xoshiro_fill_bytes.proofs.fill_normals.Tie as tie

@@ -4,7 +4,7 @@ use Rattle.fills.proofs.Draws.{Turning, turns-none, one-draw, turns-end}
 use Rattle.fills.proofs.Sounds.{normal-f32s-sound}
 use Rattle.fills.specs.Kinds.{normalF32s}
 use Rattle.xoshiro_x8.proofs.Theorems.{eight-words}
-use Rattle.xoshiro_x8.specs.Calls.{wordsOf, nextOf, drawn}
+use Rattle.xoshiro_x8.specs.Calls.{drawn, engine}
 use Rattle.xoshiro_x8.specs.declared.Draw.{Draw}
 use borrow.Author.Needs.{needs}
 use mathlib.Core.Path.{refl, ap}
@@ -12,7 +12,7 @@ use Rattle.xoshiro_fills.proofs.fill_normal_f32_plain.Statement.{statem
 use Rattle.xoshiro_fills.proofs.fill_normal_f32_plain.Tie as tie
 
 abbrev Inv-loop : tie.InvT-loop
-Inv-loop out₀ m rng₀ j₀ out rng j = Turning wordsOf nextOf normalF32s rng₀ out₀ m out j rng
+Inv-loop out₀ m rng₀ j₀ out rng j = Turning engine normalF32s rng₀ out₀ m out j rng
 
 abbrev μ-loop : tie.MeasureT-loop
 μ-loop out₀ m rng₀ j₀ out rng j = m - j

@@ -1,5 +1,5 @@
 -- `xoshiro_words::fill_buffer` meets its contract.
-use Rattle.fills.proofs.Held.{held-at-first}
+use Rattle.base.proofs.Engine.{held-at-first}
 use Rattle.xoshiro_x8.proofs.Theorems.{eight-words}
 use borrow.Author.Needs.{needs}
 use Rattle.xoshiro_words.proofs.fill_buffer.Statement.{statement}

@@ -1,15 +1,13 @@
 -- The table's rows by number, as the code tests for them. Assumes nothing.
 use mathlib.Core.List.{List}
 use mathlib.Core.Path.{_≡_, refl, sym, ap, _∙_, subst}
-use Prim.Native.Nat.{ℕ, zero, suc, _+_, _-_, _*_, _/_, _%_, _<_, _≤_, min}
+use Prim.Native.Nat.{ℕ, zero, suc, _+_, _-_, _*_, _/_, _<_, _≤_, min}
 use native.Mathlib.Decide.{ℕ-discrete}
 use native.Mathlib.Omega.{arith}
-use borrow.Author.Tests.{le-leb, lt-leb, eq-eqb, ne-eqb}
 use lib.ListN.{length}
 use Rattle.base.specs.Stored.{stored}
 use Rattle.fills.specs.Buffer.{bytesKind, groupsAhead, drawsAhead, storedGroups}
 use Rattle.fills.specs.Fill.{roundUp}
-use Rattle.fills.specs.FillBytes.{refusalOf}
 use Rattle.fills.specs.Kinds.{AnyKind, kindAt, of, u64s}
 use Rattle.kinds.proofs.Numbers.{past-6}
 
@@ -72,24 +70,6 @@ module _ (k : ℕ) (w l : List ℕ) (at : ℕ) {out : List ℕ} where
 pub double-draws : (k : ℕ) → k ≡ 6 → (n : ℕ) → drawsAhead (bytesKind (kindAt k .kind)) n ≡ 2 * min (roundUp n 128) 8
 unfolding kindAt
 double-draws k e n = ap (λ (K : AnyKind). drawsAhead (bytesKind (K .kind)) n) (ap kindAt e)
-
--- ---- the refusal, by the tests that the code makes
-module _ (k n : ℕ) where
-  pub refused-below : k ≡ 0 → 4 ≡ refusalOf k n
-  unfolding refusalOf
-  refused-below e = simp (lt-leb 1 k (omega arith))
-
-  pub refused-above : 6 < k → 4 ≡ refusalOf k n
-  unfolding refusalOf
-  refused-above h = simp (le-leb 1 k (omega arith), lt-leb k 6 h)
-
-  pub accepted : (k ≡ 0 → ⊥) → k ≤ 6 → {w : ℕ} → w ≡ kindAt k .kind .width → n % w ≡ 0 → 0 ≡ refusalOf k n
-  unfolding refusalOf
-  accepted h l {w} e z = simp (le-leb 1 k (omega arith), le-leb k 6 l, eq-eqb (n % kindAt k .kind .width) 0 (ap (λ (x : ℕ). n % x) (sym e) ∙ z))
-
-  pub refused-length : (k ≡ 0 → ⊥) → k ≤ 6 → {w : ℕ} → w ≡ kindAt k .kind .width → (n % w ≡ 0 → ⊥) → 5 ≡ refusalOf k n
-  unfolding refusalOf
-  refused-length h l {w} e z = simp (le-leb 1 k (omega arith), le-leb k 6 l, ne-eqb (n % kindAt k .kind .width) 0 (λ q. z (ap (λ (x : ℕ). n % x) e ∙ q)))
 
 -- ---- a turn of a byte fill: the m draws of the groups that n bytes begin, at most 16, make m * 64 bytes, less than a group more than n
 pub record Ahead (k n m : ℕ) : Type 0 where

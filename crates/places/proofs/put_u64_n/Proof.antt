@@ -1,9 +1,9 @@
--- `groups_u64::put_u64_n` meets its contract.
+-- `places::put_u64_n` meets its contract.
 use Prim.Native.Nat.{_-_}
 use Rattle.base.proofs.Stored.{Putting, put-none, put-more, put-end}
 use borrow.Author.Needs.{needs}
-use Rattle.groups_u64.proofs.put_u64_n.Statement.{statement}
-use Rattle.groups_u64.proofs.put_u64_n.Tie as tie
+use Rattle.places.proofs.put_u64_n.Statement.{statement}
+use Rattle.places.proofs.put_u64_n.Tie as tie
 
 abbrev Inv-loop : tie.InvT-loop
 Inv-loop out₀ at n v i₀ out i = Putting 8 out₀ at v n out i

@@ -4,7 +4,6 @@ ghost use Prim.Native.Nat.{_-_, _*_, _+_, _<_, _≤_};
 ghost use lib.ListN.{length};
 ghost use Rattle.base.specs.Stored.{stored};
 ghost use Rattle.fills.specs.Buffer.{bytesKind, groupsAhead, drawsAhead, storedGroups};
-ghost use Rattle.fills.specs.FillBytes.{refusalOf};
 ghost use Rattle.fills.specs.Kinds.{kindAt};
 
 // The bytes of one group, each of its draws with the words `w`, in the places from `at` on, as far as `out` has them. (Kind 1 stands for the
@@ -61,20 +60,4 @@ pub fn draws_ahead(kind: u64, len: usize, at: usize) -> usize
         return 2 * groups::groups_of(len, at, 128, 8);
     }
     groups::groups_of(len, at, 64, 16)
-}
-
-// The number of the refusal of a byte fill of `len` bytes, 0 if there is none.
-pub fn refusal_of(kind: u64, len: usize) -> u64
-    ensures { λ r. ⌜ r ≡ refusalOf kind len ⌝ }
-{
-    if kind == 0 {
-        return 4;
-    }
-    if kind > 6 {
-        return 4;
-    }
-    if len % kinds::width(kind) == 0 {
-        return 0;
-    }
-    5
 }

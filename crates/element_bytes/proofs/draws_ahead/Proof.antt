@@ -1,13 +1,13 @@
--- `groups_bytes::draws_ahead` meets its contract.
+-- `element_bytes::draws_ahead` meets its contract.
 use Prim.Native.Nat.{ℕ, _+_, _*_, _-_, _<_, _≤_}
 use Rattle.fills.specs.Buffer.{bytesKind, drawsAhead}
 use Rattle.fills.specs.Kinds.{kindAt}
-use Rattle.groups_bytes.proofs.Numbers.{double-draws, single-draws, ahead}
+use Rattle.element_bytes.proofs.Numbers.{double-draws, single-draws, ahead}
 use borrow.Author.Needs.{needs}
 use mathlib.Core.Path.{_≡_, sym, ap, _∙_}
 use native.Mathlib.Omega.{arith}
-use Rattle.groups_bytes.proofs.draws_ahead.Statement.{statement}
-use Rattle.groups_bytes.proofs.draws_ahead.Tie as tie
+use Rattle.element_bytes.proofs.draws_ahead.Statement.{statement}
+use Rattle.element_bytes.proofs.draws_ahead.Tie as tie
 
 -- what follows from the equation
 with-bounds : (k len at : ℕ) {m : ℕ} → m ≡ drawsAhead (bytesKind (kindAt k .kind)) (len - at)

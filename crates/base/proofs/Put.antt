@@ -9,13 +9,13 @@ use lib.Dec.{leb}
 use lib.ListN.{length, take, drop, set, length-append}
 use lib.Seq.{sets-eq, take-append-seam}
 use borrow.Author.Tests.{le-leb}
 use Rattle.base.specs.Stored.{stored}
 use Rattle.base.proofs.Stored.{stored-two, length-stored}
-use Rattle.decimal.specs.Put.{Put, given}
+use Rattle.base.specs.Put.{Put, given}
 
-pub put-none : (at : ℕ) (l : List ℕ) → Put [] at l l at
+pub put-nothing : (at : ℕ) (l : List ℕ) → Put [] at l l at
 unfolding stored
-put-none at l = record { next = sym (add-zero at); made = refl }
+put-nothing at l = record { next = sym (add-zero at); made = refl }
 
 pub put-one : (at v : ℕ) (l : List ℕ) → Put (v ∷ []) at l (set l at v) (at + 1)
 unfolding stored
@@ -59,7 +59,7 @@ given-yes e p = rw e p
 
 pub given-no : {b : Bool} (t : List ℕ) (at : ℕ) (l : List ℕ) → b ≡ false → Put (given b t) at l l at
 unfolding given
-given-no t at l e = rw e (put-none at l)
+given-no t at l e = rw e (put-nothing at l)
 
 -- a writer that asks for just the room of its text, where there is that room
 pub given-room : {at r : ℕ} {l l′ : List ℕ} (t : List ℕ) → at + length t ≤ length l → Put (given (leb (at + length t) (length l)) t) at l l′ r → Put t at l l′ r

@@ -1,9 +1,9 @@
--- `groups_bytes::put_group` meets its contract.
+-- `element_bytes::put_group` meets its contract.
 use Rattle.fills.specs.Kinds.{kindAt}
-use Rattle.groups_bytes.proofs.Numbers.{grouped-by, grouped-other}
+use Rattle.element_bytes.proofs.Numbers.{grouped-by, grouped-other}
 use borrow.Author.Needs.{needs}
-use Rattle.groups_bytes.proofs.put_group.Statement.{statement}
-use Rattle.groups_bytes.proofs.put_group.Tie as tie
+use Rattle.element_bytes.proofs.put_group.Statement.{statement}
+use Rattle.element_bytes.proofs.put_group.Tie as tie
 
 returns : tie.Need-returns
 unfolding kindAt

@@ -1,9 +1,9 @@
--- `groups_bytes::map_bytes` meets its contract.
+-- `element_bytes::map_bytes` meets its contract.
 use Rattle.fills.specs.Kinds.{kindAt}
-use Rattle.groups_bytes.proofs.Numbers.{mapped-by, mapped-other}
+use Rattle.element_bytes.proofs.Numbers.{mapped-by, mapped-other}
 use borrow.Author.Needs.{needs}
-use Rattle.groups_bytes.proofs.map_bytes.Statement.{statement}
-use Rattle.groups_bytes.proofs.map_bytes.Tie as tie
+use Rattle.element_bytes.proofs.map_bytes.Statement.{statement}
+use Rattle.element_bytes.proofs.map_bytes.Tie as tie
 
 returns : tie.Need-returns
 unfolding kindAt
