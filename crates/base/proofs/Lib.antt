@@ -10,3 +10,4 @@ pub mod Bytes
 pub mod Put
 pub mod Engine
 pub mod Refused
+pub mod Lists

@@ -34,10 +34,10 @@ unfolding accepted given
 lines k part before after r e h p c = put-counted (rw (eq-eqb _ _ e, le-leb _ _ h) at p) c
 
 pub raw : Raw
-raw o steps w = delivered (λ l. l) _ _ _ _ _ _ steps (as-they-are _) (w .run) (w .end)
+raw o calls w = delivered (λ l. l) _ _ _ _ _ _ calls (as-they-are _) (w .run) (w .end)
 
 pub text : Text
-text o steps w = delivered (linesOf (o .kind)) _ _ _ _ _ _ steps (by-lines (o .kind)) (w .run) (w .end)
+text o calls w = delivered (linesOf (o .kind)) _ _ _ _ _ _ calls (by-lines (o .kind)) (w .run) (w .end)
 
 -- the order's draws are those of its bytes
 draws-of : (o : Order) → Accepted o → bytesDraws (o .kind) (o .count * widthOf (o .kind)) ≡ o .draws
@@ -45,8 +45,8 @@ unfolding bytesDraws
 draws-of o A = ap (drawsFor (kindAt (o .kind) .kind)) (mul-div-cancel (o .count) (row (o .kind) .wide)) ∙ sym (A .draws)
 
 pub ends : Ends
-ends o steps A w =
-    joined (λ l. l) (begun o) steps (as-they-are _) (w .run) (w .end) .1
+ends o calls A w =
+    joined (λ l. l) (begun o) calls (as-they-are _) (w .run) (w .end) .1
     ∙ ap (λ (n : ℕ). iterate nextOf n (begun o .source)) (draws-of o A)
     ∙ sym (iterate-then nextOf (o .first) (o .draws) (startOf (o .engine) (o .seed) (o .block)))
 

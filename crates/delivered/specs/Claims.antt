@@ -7,7 +7,7 @@ use lib.ListN.{length, take}
 use Rattle.base.specs.Put.{Put, given}
 use Rattle.base.specs.Iterate.{iterate}
 use Rattle.source.specs.Source.{nextOf, startOf}
-use Rattle.delivery.specs.Claims.{Step, Run, restOf, joinedBy, ordered, deliveryOf}
+use Rattle.delivery.specs.Claims.{Call, Run, restOf, joinedBy, ordered, deliveryOf}
 use Rattle.delivery.specs.declared.Delivery.{Delivery}
 use Rattle.fills.specs.FillBytes.{elements, refusalOf}
 use Rattle.lines.specs.Lines.{linesOf, accepted}
@@ -22,9 +22,9 @@ abbrev pub bytesOf : Order → List ℕ
 bytesOf o = ordered (o .engine) (o .seed) (o .block) (o .first) (o .kind) (o .count)
 
 -- calls of next_part that deliver all of an order
-pub record Whole (o : Order) (steps : List Step) : Type 0 where
-  pub run : Run (begun o) steps
-  pub end : restOf (begun o) steps .left ≡ 0
+pub record Whole (o : Order) (calls : List Call) : Type 0 where
+  pub run : Run (begun o) calls
+  pub end : restOf (begun o) calls .left ≡ 0
 
 -- what `put_lines` leaves at the start of a buffer that has 25 bytes for each value, and the program then writes, are the lines of the part
 abbrev pub Lines : Type 0
@@ -33,16 +33,16 @@ Lines = (k : ℕ) (part before after : List ℕ) (r : ℕ) → refusalOf k (leng
 
 -- with `raw`: the parts joined are the bytes of the one fill
 abbrev pub Raw : Type 0
-Raw = (o : Order) (steps : List Step) → Whole o steps → joinedBy (λ l. l) steps ≡ bytesOf o
+Raw = (o : Order) (calls : List Call) → Whole o calls → joinedBy (λ l. l) calls ≡ bytesOf o
 
 -- without: their lines joined are the lines of the one fill
 abbrev pub Text : Type 0
-Text = (o : Order) (steps : List Step) → Whole o steps → joinedBy (linesOf (o .kind)) steps ≡ linesOf (o .kind) (bytesOf o)
+Text = (o : Order) (calls : List Call) → Whole o calls → joinedBy (linesOf (o .kind)) calls ≡ linesOf (o .kind) (bytesOf o)
 
 -- the draws that were made are those from FIRST up to END: after the last part the generator has made END draws since its start
 abbrev pub Ends : Type 0
-Ends = (o : Order) (steps : List Step) → Accepted o → Whole o steps
-    → restOf (begun o) steps .source ≡ iterate nextOf (o .first + o .draws) (startOf (o .engine) (o .seed) (o .block))
+Ends = (o : Order) (calls : List Call) → Accepted o → Whole o calls
+    → restOf (begun o) calls .source ≡ iterate nextOf (o .first + o .draws) (startOf (o .engine) (o .seed) (o .block))
 
 -- an order of n more values is the order, where COUNT is a multiple of 16, and an order of n values with END as its FIRST
 abbrev pub Resumes : Type 0

@@ -1,5 +1,5 @@
 -- The claims of specs/Claims.antt. Assumes nothing.
-use mathlib.Core.List.{List, [], _∷_, _++_}
+use mathlib.Core.List.{List, [], _∷_, _++_, append-nil, append-assoc}
 use mathlib.Core.Path.{_≡_, refl, sym, ap, _∙_, subst}
 use Prim.Native.Nat.{ℕ, _+_, _-_, _*_, _%_}
 use native.Mathlib.Decide.{ℕ-discrete}
@@ -10,11 +10,12 @@ use lib.Seq.{take-at}
 use Rattle.base.specs.Engine.{wordsFrom}
 use Rattle.base.specs.Iterate.{iterate}
 use Rattle.base.proofs.Iterate.{iterate-then}
+use Rattle.base.proofs.Lists.{along}
 use Rattle.fills.specs.FillBytes.{bytesWritten, bytesDraws}
 use Rattle.source.specs.Source.{nextOf, startOf, either}
 use Rattle.source.specs.declared.Source.{Source}
 use Rattle.delivery.specs.Delivery.{widthOf, placesOf, NextPart}
-use Rattle.delivery.specs.Claims.{OneFill, TwoFills, TwoOrders, ByElements, AsTheyAre, wholeOf, drawsOf, Joined, deliveryOf, Delivered}
+use Rattle.delivery.specs.Claims.{OneFill, TwoFills, TwoOrders, ByElements, AsTheyAre, Call, Step, restOf, joinedBy, wholeOf, drawsOf, Joined, deliveryOf, Delivered}
 use Rattle.delivery.specs.declared.Delivery.{Delivery}
 use Rattle.delivery.proofs.Joining.{none-drawn, none-written, length-written, whole-then, then-none}
 use Rattle.delivery.proofs.Room.{fits}
@@ -101,15 +102,34 @@ module _ {d rest : Delivery} {before after : List ℕ} {bytes : ℕ} (P : NextPa
   whole-elements : length (take bytes after) % widthOf (d .kind) ≡ 0
   whole-elements = ap (λ (l : List ℕ). length l % widthOf (d .kind)) handed ∙ whole-bytes (d .kind) places (wordsFrom either (d .source))
 
+-- ---- a run
+-- the parts so far and the fill of what is left are the whole fill, and the draws of what is left end where its draws end
+record SoFar (f : List ℕ → List ℕ) (d : Delivery) (calls : List Call) : Type 0 where
+  kind : restOf d calls .kind ≡ d .kind
+  bytes : f (wholeOf d) ≡ joinedBy f calls ++ f (wholeOf (restOf d calls))
+  draws : iterate nextOf (drawsOf d) (d .source) ≡ iterate nextOf (drawsOf (restOf d calls)) (restOf d calls .source)
+
 pub joined : Joined
-joined f d [] B r e = (sym (ap f (nothing-whole d e) ∙ B .none), nothing-drawn d e)
-joined f d (s ∷ steps) B (P, r) e =
-    let part : List ℕ = take (s .part .bytes) (s .after) in
-    let rest : Delivery = s .part .rest in
-    let J = joined f rest steps (subst (λ (x : Delivery). ByElements (widthOf (x .kind)) f) (sym (P .remains)) B) r e in (
-      ap (λ (l : List ℕ). f part ++ l) (J .0) ∙ sym (B .both part (wholeOf rest) (whole-elements P)) ∙ ap f (sym (whole-parts P)),
-      J .1 ∙ sym (draws-parts P),
+joined f d calls B r e =
+    let w = along r (SoFar f d) (record { kind = refl; bytes = refl; draws = refl }) more in
+    let none = ap f (nothing-whole (restOf d calls) e) ∙ B .none in (
+      sym (w .bytes ∙ ap (λ (l : List ℕ). joinedBy f calls ++ l) none ∙ append-nil (joinedBy f calls)),
+      nothing-drawn (restOf d calls) e ∙ sym (w .draws),
     )
+  where
+    more : (s : Call) (calls : List Call) → SoFar f d calls → Step (restOf d calls) s → SoFar f d (s ∷ calls)
+    more s calls w P =
+        let part : List ℕ = take (s .part .bytes) (s .after) in
+        let rest : Delivery = s .part .rest in
+        let by : ByElements (widthOf (restOf d calls .kind)) f = subst (λ (k : ℕ). ByElements (widthOf k) f) (sym (w .kind)) B in
+        record {
+          kind = ap (λ (x : Delivery). x .kind) (P .remains) ∙ w .kind;
+          bytes =
+              w .bytes
+              ∙ ap (λ (l : List ℕ). joinedBy f calls ++ l) (ap f (whole-parts P) ∙ by .both part (wholeOf rest) (whole-elements P))
+              ∙ sym (append-assoc (joinedBy f calls) (f part) (f (wholeOf rest)));
+          draws = w .draws ∙ draws-parts P;
+        }
 
 pub delivered : Delivered
-delivered f engine seed block first k n steps B r e = joined f (deliveryOf engine seed block first k n) steps B r e .0
+delivered f engine seed block first k n calls B r e = joined f (deliveryOf engine seed block first k n) calls B r e .0

@@ -5,6 +5,7 @@ use Prim.Native.Nat.{ℕ, _+_, _*_, _%_}
 use lib.ListN.{length, take}
 use Rattle.base.specs.Engine.{Engine, wordsFrom}
 use Rattle.base.specs.Iterate.{iterate}
+use Rattle.base.specs.Lists as lists
 use Rattle.fills.specs.FillBytes.{bytesWritten, bytesDraws}
 use Rattle.source.specs.Source.{nextOf, startOf, either}
 use Rattle.delivery.specs.Delivery.{widthOf, NextPart}
@@ -43,25 +44,31 @@ TwoOrders = (f : List ℕ → List ℕ) (engine seed block first k n m : ℕ) �
 
 -- ---- a delivery in parts
 -- a call of next_part: the buffer at the call and at the return, and what was handed back
-pub record Step : Type 0 where
+pub record Call : Type 0 where
   pub before : List ℕ
   pub after : List ℕ
   pub part : Part
 
--- the calls were made one after another, each on what the one before it left; the buffers may differ
-abbrev pub Run : Delivery → List Step → Type 0
-Run d [] = Unit {0}
-Run d (s ∷ steps) = NextPart d (s .before) (s .after) (s .part .bytes) (s .part .rest) × Run (s .part .rest) steps
+-- what next_part promises of the call s on the delivery d: its `ensures`, word for word (proofs/Bridge.antt)
+abbrev pub Step : Delivery → Call → Type 0
+Step d s = NextPart d (s .before) (s .after) (s .part .bytes) (s .part .rest)
+
+-- what the call left
+abbrev pub restIn : Call → Delivery
+restIn s = s .part .rest
+
+-- the calls were made one after another, each on what the one before it left; the buffers may differ. A list has its latest call first
+abbrev pub Run : Delivery → List Call → Type 0
+Run = lists.Run Step restIn
 
 -- what is left after them
-abbrev pub restOf : Delivery → List Step → Delivery
-restOf d [] = d
-restOf d (s ∷ steps) = restOf (s .part .rest) steps
+abbrev pub restOf : Delivery → List Call → Delivery
+restOf = lists.endOf restIn
 
--- the parts joined, each written as f says
-abbrev pub joinedBy : (List ℕ → List ℕ) → List Step → List ℕ
+-- the parts joined, each written as f says, the latest call's last
+abbrev pub joinedBy : (List ℕ → List ℕ) → List Call → List ℕ
 joinedBy f [] = []
-joinedBy f (s ∷ steps) = f (take (s .part .bytes) (s .after)) ++ joinedBy f steps
+joinedBy f (s ∷ calls) = joinedBy f calls ++ f (take (s .part .bytes) (s .after))
 
 -- the bytes of the fill of all places of a delivery, and its draws
 abbrev pub wholeOf : Delivery → List ℕ
@@ -72,14 +79,14 @@ drawsOf d = bytesDraws (d .kind) (d .left * widthOf (d .kind))
 
 -- where nothing is left after the calls, the parts joined are the one fill, and the source stands where its draws end
 abbrev pub Joined : Type 0
-Joined = (f : List ℕ → List ℕ) (d : Delivery) (steps : List Step) → ByElements (widthOf (d .kind)) f → Run d steps → restOf d steps .left ≡ 0
-    → (joinedBy f steps ≡ f (wholeOf d)) × (restOf d steps .source ≡ iterate nextOf (drawsOf d) (d .source))
+Joined = (f : List ℕ → List ℕ) (d : Delivery) (calls : List Call) → ByElements (widthOf (d .kind)) f → Run d calls → restOf d calls .left ≡ 0
+    → (joinedBy f calls ≡ f (wholeOf d)) × (restOf d calls .source ≡ iterate nextOf (drawsOf d) (d .source))
 
 -- so a delivery of an order, part by part until nothing is left, writes what the order says
 abbrev pub deliveryOf : ℕ → ℕ → ℕ → ℕ → ℕ → ℕ → Delivery
 deliveryOf engine seed block first k n = record { source = iterate nextOf first (startOf engine seed block); kind = k; left = n }
 
 abbrev pub Delivered : Type 0
-Delivered = (f : List ℕ → List ℕ) (engine seed block first k n : ℕ) (steps : List Step) → ByElements (widthOf k) f
-    → Run (deliveryOf engine seed block first k n) steps → restOf (deliveryOf engine seed block first k n) steps .left ≡ 0
-    → joinedBy f steps ≡ f (ordered engine seed block first k n)
+Delivered = (f : List ℕ → List ℕ) (engine seed block first k n : ℕ) (calls : List Call) → ByElements (widthOf k) f
+    → Run (deliveryOf engine seed block first k n) calls → restOf (deliveryOf engine seed block first k n) calls .left ≡ 0
+    → joinedBy f calls ≡ f (ordered engine seed block first k n)

@@ -8,6 +8,7 @@ use lib.ListN.{length}
 use Rattle.base.specs.Refused.{unless}
 use Rattle.base.specs.Iterate.{iterate}
 use Rattle.base.proofs.Iterate.{iterate-keeps}
+use Rattle.base.proofs.Lists.{along}
 use Rattle.fills.specs.FillBytes.{refusalOf, bytesDraws}
 use Rattle.girderpeach.specs.Host.{answerOf, firstOf}
 use Rattle.philox_history.specs.History.{Tally, start, oneDraw}
@@ -21,7 +22,7 @@ use Rattle.philox_saved.proofs.Widths.{words-fresh, words-next, words-sought, s
 use Rattle.philox_x8.specs.Machine.{wordsOf, nextOf, sought}
 use Rattle.philox_x8.specs.declared.Philox4x32X8.{Philox4x32X8}
 use Rattle.girderpeach_history.specs.Answers.{ifAccepted}
-use Rattle.girderpeach_history.specs.Philox.{Call, fill, seek, Step, formIn, formAfter, Run, none, then, tally, drawsReported, Right, History, HostAddsUp}
+use Rattle.girderpeach_history.specs.Philox.{Call, fill, seek, Step, formIn, formAfter, Run, tallyAfter, tally, reportedAfter, Right, History, HostAddsUp}
 use Rattle.girderpeach_history.proofs.Answers.{saved, counted, right, leaves}
 
 -- a form keeps all of such a generator: its words fit, and none are left that don't wait. A draw's generator is one again
@@ -45,37 +46,43 @@ read-back {g₀} {t} h =
     ap loaded (h .holds) ∙ load-saved (tallied g₀ t) (h .kept .words) ∙ ap (λ (g : Philox4x32X8). record { refusal = 0; rng = g }) (h .kept .settles)
 
 -- one call: the form that it leaves, that it is right, and that it reports what is counted
-module _ (g₀ : Philox4x32X8) (calls : List Call) {form : List ℕ} (h : Held g₀ (tally calls) form) where
-  read : loaded form .refusal ≡ 0 → loaded form .rng ≡ tallied g₀ (tally calls)
+module _ (g₀ : Philox4x32X8) (t : Tally) {form : List ℕ} (h : Held g₀ t form) where
+  read : loaded form .refusal ≡ 0 → loaded form .rng ≡ tallied g₀ t
   read z = ap (λ (x : Loaded). x .rng) (read-back h)
 
-  stands : (c : Call) → Step form c → Held g₀ (tally (c ∷ calls)) (formIn c)
+  stands : (c : Call) → Step form c → Held g₀ (tallyAfter t c) (formIn c)
   stands (fill k before after answer form′) F =
       let n : ℕ = ifAccepted answer (bytesDraws k (length before)) 0 in
-      held (tallied-draws n g₀ (tally calls)) (iterate-keeps Kept nextOf kept-next n _ (h .kept)) (leaves F read (h .holds))
+      held (tallied-draws n g₀ t) (iterate-keeps Kept nextOf kept-next n _ (h .kept)) (leaves F read (h .holds))
   stands (seek n u64 answer form′) C =
-      held (tallied-seek g₀ (tally calls) n u64) (record { words = words-sought _ n u64 (h .kept .words); settles = settled-sought _ n })
+      held (tallied-seek g₀ t n u64) (record { words = words-sought _ n u64 (h .kept .words); settles = settled-sought _ n })
       (C .saves ∙ ap (λ (x : Loaded). unless (x .refusal) (formOf (sought (x .rng) n)) form) (read-back h))
 
-  is-right : (c : Call) → Step form c → Right g₀ (tally calls) form c
+  is-right : (c : Call) → Step form c → Right g₀ t form c
   is-right (fill k before after answer form′) F =
       right F read (ap (λ (x : Loaded). firstOf (x .refusal) (refusalOf k (length before))) (read-back h)) _
-      (λ m. ap wordsOf (tallied-draws m g₀ (tally calls)) ∙ tallied-words g₀ (iterate oneDraw m (tally calls)))
+      (λ m. ap wordsOf (tallied-draws m g₀ t) ∙ tallied-words g₀ (iterate oneDraw m t))
   is-right (seek n u64 answer form′) C = C .answers ∙ ap (λ (x : Loaded). answerOf (x .refusal) 0) (read-back h)
 
-  counts : (c : Call) → Step form c → drawsReported calls ≡ tally calls .d → drawsReported (c ∷ calls) ≡ tally (c ∷ calls) .d
+  counts : {m : ℕ} (c : Call) → Step form c → m ≡ t .d → reportedAfter m c ≡ tallyAfter t c .d
   counts (fill k before after answer form′) F e =
-      omega (arith, e, counted (F .called), draws-count (ifAccepted answer (bytesDraws k (length before)) 0) (tally calls) .0)
+      omega (arith, e, counted (F .called), draws-count (ifAccepted answer (bytesDraws k (length before)) 0) t .0)
   counts (seek n u64 answer form′) C e = refl
 
 -- a whole list
-whole : {g₀ : Philox4x32X8} {s₀ : List ℕ} {calls : List Call} → Held g₀ start s₀ → Run s₀ calls → Held g₀ (tally calls) (formAfter s₀ calls) × History g₀ s₀ calls
+abbrev Whole : Philox4x32X8 → List ℕ → List Call → Type 0
+Whole g₀ s₀ calls = Held g₀ (tally calls) (formAfter s₀ calls) × History g₀ s₀ calls
+
+whole : {g₀ : Philox4x32X8} {s₀ : List ℕ} {calls : List Call} → Held g₀ start s₀ → Run s₀ calls → Whole g₀ s₀ calls
 unfolding tallied
-whole h none = (h, record { draws = refl; form = h .holds; outputs = tt })
-whole {g₀} h (then {c = c} {calls = calls} r f) =
-    let w = whole h r in
-    let h′ = stands g₀ calls (w .0) c f in
-    (h′, record { draws = counts g₀ calls (w .0) c f (w .1 .draws); form = h′ .holds; outputs = (is-right g₀ calls (w .0) c f, w .1 .outputs) })
+whole {g₀} {s₀} h r = along r (Whole g₀ s₀) (h, record { draws = refl; form = h .holds; outputs = tt }) more
+  where
+    more : (c : Call) (calls : List Call) → Whole g₀ s₀ calls → Step (formAfter s₀ calls) c → Whole g₀ s₀ (c ∷ calls)
+    more c calls w f =
+        let t : Tally = tally calls in
+        let h′ = stands g₀ t (w .0) c f in
+        let right′ = is-right g₀ t (w .0) c f in
+        (h′, record { draws = counts g₀ t (w .0) c f (w .1 .draws); form = h′ .holds; outputs = (right′, w .1 .outputs) })
 
 pub host-adds-up : HostAddsUp
 host-adds-up seed stream a b before s₀ calls n r =

@@ -10,6 +10,7 @@ use Rattle.base.specs.Iterate.{iterate}
 use Rattle.base.specs.Quad.{column, rowsOf}
 use Rattle.base.specs.Table.{table}
 use Rattle.base.proofs.Iterate.{iterate-keeps}
+use Rattle.base.proofs.Lists.{along}
 use Rattle.base.proofs.Quad.{rowsOf-same}
 use Rattle.xoshiro.specs.Xoshiro256pp.{State, seeded}
 use Rattle.xoshiro_history.proofs.Lanes.{At, at-same, at-draws, at-move, words-at}
@@ -22,7 +23,7 @@ use Rattle.xoshiro_x8.specs.Lanes.{laneOf, ofRows}
 use Rattle.xoshiro_x8.specs.declared.Xoshiro256ppX8.{Xoshiro256ppX8}
 use Rattle.xoshiro_x8.proofs.Theorems.{lanes-start}
 use Rattle.girderpeach_history.specs.Answers.{ifAccepted}
-use Rattle.girderpeach_history.specs.Xoshiro.{Call, fill, move, Step, formIn, formAfter, Run, none, then, drawsReported, jumpsReported, drawsCounted, jumpsCounted, D, J, standing, Right, History, HostAddsUp}
+use Rattle.girderpeach_history.specs.Xoshiro.{Call, fill, move, Step, formIn, formAfter, Run, drawsReported, jumpsReported, drawsCounted, jumpsCounted, D, J, standing, Right, History, HostAddsUp}
 use Rattle.girderpeach_history.proofs.Answers.{written, chosen, saved, stays, counted, right, leaves}
 
 -- a form reads no more of a generator than its lanes
@@ -85,21 +86,28 @@ held-new seed b e =
     held-same (record { g = placed seed b .rng; at = record { lane = lanes-start seed b }; words = words-placed seed b; holds = e }) refl (sym (add-zero (blockJumps b))) refl
 
 -- a whole list
+abbrev Whole : ℕ → ℕ → ℕ → List ℕ → List Call → Type 0
+Whole seed b j s₀ calls = Held (seeded seed) (D calls) (J b calls) (formAfter s₀ calls) × History seed b j s₀ calls
+
 whole : {seed b j : ℕ} {s₀ : List ℕ} {calls : List Call} → j ≡ blockJumps b → Held (seeded seed) 0 (J b []) s₀ → Run s₀ calls
-    → Held (seeded seed) (D calls) (J b calls) (formAfter s₀ calls) × History seed b j s₀ calls
-whole e h none = (h, record { draws = refl; jumps-total = ap (λ (k : ℕ). k + 0) e; form = held-form h; outputs = tt })
-whole {seed} {b} e h (then {c = c} {calls = calls} r f) =
-    let w = whole e h r in
-    let o = one (w .0) c f in
-    let h′ : Held (seeded seed) (D (c ∷ calls)) (J b (c ∷ calls)) (formIn c) = held-same (o .held) refl (omega arith) refl in (
-      h′,
-      record {
-        draws = omega (arith, w .1 .draws, o .draws);
-        jumps-total = omega (arith, w .1 .jumps-total, o .jumps);
-        form = held-form h′;
-        outputs = (o .right, w .1 .outputs);
-      },
-    )
+    → Whole seed b j s₀ calls
+whole {seed} {b} {j} {s₀} e h r = along r (Whole seed b j s₀) begun more
+  where
+    begun : Whole seed b j s₀ []
+    begun = (h, record { draws = refl; jumps-total = ap (λ (k : ℕ). k + 0) e; form = held-form h; outputs = tt })
+
+    more : (c : Call) (calls : List Call) → Whole seed b j s₀ calls → Step (formAfter s₀ calls) c → Whole seed b j s₀ (c ∷ calls)
+    more c calls w f =
+        let o = one (w .0) c f in
+        let h′ : Held (seeded seed) (D (c ∷ calls)) (J b (c ∷ calls)) (formIn c) = held-same (o .held) refl (omega arith) refl in (
+          h′,
+          record {
+            draws = omega (arith, w .1 .draws, o .draws);
+            jumps-total = omega (arith, w .1 .jumps-total, o .jumps);
+            form = held-form h′;
+            outputs = (o .right, w .1 .outputs);
+          },
+        )
 
 pub host-adds-up : HostAddsUp
 unfolding placed

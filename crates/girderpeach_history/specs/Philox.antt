@@ -1,12 +1,14 @@
 -- Lists of a host's calls on one form of a Philox generator, and what holds after every list on the form that gp_philox_new wrote: demand 3
 -- for a host. A list has its latest call first, so that its tail is what came before its head.
 use mathlib.Core.Bool.{cond}
-use mathlib.Core.List.{List, [], _∷_}
+use mathlib.Core.List.{List}
 use mathlib.Core.Path.{_≡_}
 use Prim.Native.Nat.{ℕ, _+_, _^_, _<_}
 use lib.IntN.{ℤ, pos}
 use lib.ListN.{length}
 use Rattle.base.specs.Iterate.{iterate}
+use Rattle.base.specs.Lists as lists
+use Rattle.base.specs.Lists.{folded, Each}
 use Rattle.fills.specs.FillBytes.{refusalOf, bytesDraws}
 use Rattle.girderpeach.specs.Philox.{Filled, New, Sought}
 use Rattle.philox_history.specs.History.{Tally, counterOf, waitsOf, start, oneDraw, wordsAt}
@@ -32,25 +34,28 @@ formIn (fill k before after answer form) = form
 formIn (seek n u64 answer form) = form
 
 abbrev pub formAfter : List ℕ → List Call → List ℕ
-formAfter s₀ [] = s₀
-formAfter s₀ (c ∷ calls) = formIn c
+formAfter = lists.endOf formIn
 
 -- the calls were made one after another, each on the form that the one before it left
-pub data Run (s₀ : List ℕ) : List Call → Type 0 where
-  none : Run s₀ []
-  then : {c : Call} {calls : List Call} → Run s₀ calls → Step (formAfter s₀ calls) c → Run s₀ (c ∷ calls)
+abbrev pub Run : List ℕ → List Call → Type 0
+Run = lists.Run Step formIn
 
 -- ---- what is counted along a list: the last sought block, and the draws since then (a host makes no group calls)
-abbrev pub tally : List Call → Tally
-tally [] = start
-tally (fill k before after answer form ∷ calls) = iterate oneDraw (ifAccepted answer (bytesDraws k (length before)) 0) (tally calls)
-tally (seek n u64 answer form ∷ calls) = record { a = n; g = 0; d = 0; from = 0 }
+-- the tally after a call, where it was t before it
+abbrev pub tallyAfter : Tally → Call → Tally
+tallyAfter t (fill k before after answer form) = iterate oneDraw (ifAccepted answer (bytesDraws k (length before)) 0) t
+tallyAfter t (seek n u64 answer form) = record { a = n; g = 0; d = 0; from = 0 }
 
--- the draws that the fills since the last seek reported
+abbrev pub tally : List Call → Tally
+tally calls = folded tallyAfter start calls
+
+-- the draws that the fills since the last seek reported, after a call, where they were m before it
+abbrev pub reportedAfter : ℕ → Call → ℕ
+reportedAfter m (fill k before after answer form) = m + reported answer
+reportedAfter m (seek n u64 answer form) = 0
+
 abbrev pub drawsReported : List Call → ℕ
-drawsReported [] = 0
-drawsReported (fill k before after answer form ∷ calls) = drawsReported calls + reported answer
-drawsReported (seek n u64 answer form ∷ calls) = 0
+drawsReported calls = folded reportedAfter 0 calls
 
 -- ---- the claim
 -- the generator with the key and stream of g₀, and the counter and the waiting words that the tally gives
@@ -63,8 +68,7 @@ Right g₀ t form (fill k before after answer form′) = RightFill (refusalOf k 
 Right g₀ t form (seek n u64 answer form′) = answer ≡ pos 0
 
 abbrev pub AllRight : Philox4x32X8 → List ℕ → List Call → Type 0
-AllRight g₀ s₀ [] = Unit {0}
-AllRight g₀ s₀ (c ∷ calls) = Right g₀ (tally calls) (formAfter s₀ calls) c × AllRight g₀ s₀ calls
+AllRight g₀ s₀ = Each (λ calls c. Right g₀ (tally calls) (formAfter s₀ calls) c)
 
 -- gp_philox_new wrote the form s₀ of the fresh generator g₀, and the calls were made on that form
 pub record History (g₀ : Philox4x32X8) (s₀ : List ℕ) (calls : List Call) : Type 0 where

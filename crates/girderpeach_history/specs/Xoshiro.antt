@@ -1,10 +1,12 @@
 -- Lists of a host's calls on one form of the eight-lane generator, and what holds after every list on the form that gp_xoshiro_new wrote:
 -- demand 3 for a host. A list has its latest call first, so that its tail is what came before its head.
-use mathlib.Core.List.{List, [], _∷_}
+use mathlib.Core.List.{List}
 use mathlib.Core.Path.{_≡_}
 use Prim.Native.Nat.{ℕ, _+_}
 use lib.IntN.{ℤ, pos, negsuc}
 use lib.ListN.{length}
+use Rattle.base.specs.Lists as lists
+use Rattle.base.specs.Lists.{total, Each}
 use Rattle.fills.specs.FillBytes.{refusalOf, bytesDraws}
 use Rattle.girderpeach.specs.Host.{answerOf, firstOf}
 use Rattle.girderpeach.specs.Xoshiro.{Filled, New, JumpedBlocks}
@@ -33,19 +35,13 @@ formIn (fill k before after answer form) = form
 formIn (move n before after answer form) = form
 
 abbrev pub formAfter : List ℕ → List Call → List ℕ
-formAfter s₀ [] = s₀
-formAfter s₀ (c ∷ calls) = formIn c
+formAfter = lists.endOf formIn
 
 -- the calls were made one after another, each on the form that the one before it left
-pub data Run (s₀ : List ℕ) : List Call → Type 0 where
-  none : Run s₀ []
-  then : {c : Call} {calls : List Call} → Run s₀ calls → Step (formAfter s₀ calls) c → Run s₀ (c ∷ calls)
+abbrev pub Run : List ℕ → List Call → Type 0
+Run = lists.Run Step formIn
 
 -- ---- what the calls reported, and D and J, whole numbers, never reduced: a refused call counts nothing
-abbrev pub total : (Call → ℕ) → List Call → ℕ
-total f [] = 0
-total f (c ∷ calls) = total f calls + f c
-
 abbrev pub drawsReported : Call → ℕ
 drawsReported (fill k before after answer form) = reported answer
 drawsReported (move n before after answer form) = 0
@@ -85,8 +81,7 @@ Right s d j form (fill k before after answer form′) = RightFill (firstOf (load
 Right s d j form (move n before after answer form′) = RightMove n before after answer form form′
 
 abbrev pub AllRight : ℕ → ℕ → List ℕ → List Call → Type 0
-AllRight seed b s₀ [] = Unit {0}
-AllRight seed b s₀ (c ∷ calls) = Right (seeded seed) (D calls) (J b calls) (formAfter s₀ calls) c × AllRight seed b s₀ calls
+AllRight seed b s₀ = Each (λ calls c. Right (seeded seed) (D calls) (J b calls) (formAfter s₀ calls) c)
 
 -- gp_xoshiro_new at seed and block b wrote the form s₀ and the number j, and the calls were made on that form
 pub record History (seed b j : ℕ) (s₀ : List ℕ) (calls : List Call) : Type 0 where

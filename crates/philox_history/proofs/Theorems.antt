@@ -4,17 +4,16 @@ use mathlib.Core.Path.{_≡_, refl, sym, ap, ap₂, _∙_}
 use Prim.Native.Nat.{ℕ, zero, suc, _+_}
 use native.Mathlib.Omega.{arith}
 use lib.ListN.{length}
-use Rattle.base.specs.Refused.{unless}
 use Rattle.base.specs.Iterate.{iterate}
+use Rattle.base.proofs.Lists.{along}
 use Rattle.fills.specs.Fill.{drawsFor}
-use Rattle.fills.specs.FillBytes.{refusalOf, bytesDraws}
 use Rattle.fills.proofs.Handed.{right-fill, right-bytes, draws-made, draws-reported}
 use Rattle.philox_x8.specs.Machine.{wordsOf, nextOf, drawn, grouped, sought}
 use Rattle.philox_x8.specs.declared.Blocks.{Blocks}
 use Rattle.philox_x8.specs.declared.Draw.{Draw}
 use Rattle.philox_x8.specs.declared.Philox4x32X8.{Philox4x32X8}
-use Rattle.philox_history.specs.Calls.{Call, draw, group, seek, fill, bytes, Step, rngOf, rngAfter, Run, none, then}
-use Rattle.philox_history.specs.History.{start, tally, oneDraw, reported, wordsAt, Right, AllRight, DrawsAddUp, DrawsCount}
+use Rattle.philox_history.specs.Calls.{Call, draw, group, seek, fill, bytes, Step, rngOf, rngAfter, Run}
+use Rattle.philox_history.specs.History.{Tally, start, oneDraw, tallyAfter, tally, reportedAfter, reported, wordsAt, Right, AllRight, DrawsAddUp, DrawsCount}
 use Rattle.philox_history.proofs.Tallied.{tallied, tallied-start, tallied-words, tallied-draw, tallied-draws, tallied-group, tallied-seek}
 
 pub draws-count : DrawsCount
@@ -24,26 +23,26 @@ draws-count (suc n) t =
     let w = draws-count n t in
     (omega (arith, w .0), w .1, w .2)
 
--- ---- one call, on the generator s that the tally stands for: the generator after it, what it handed out, and what it reported
-module _ (s₀ : Philox4x32X8) (calls : List Call) {s : Philox4x32X8} (e : s ≡ tallied s₀ (tally calls)) where
-  drawn-words : (m : ℕ) → wordsOf (iterate nextOf m s) ≡ wordsAt s₀ (iterate oneDraw m (tally calls))
+-- ---- one call, on the generator s that the tally t stands for: the generator after it, what it handed out, and what it reported
+module _ (s₀ : Philox4x32X8) (t : Tally) {s : Philox4x32X8} (e : s ≡ tallied s₀ t) where
+  drawn-words : (m : ℕ) → wordsOf (iterate nextOf m s) ≡ wordsAt s₀ (iterate oneDraw m t)
   drawn-words m =
       ap (λ (x : Philox4x32X8). wordsOf (iterate nextOf m x)) e
-      ∙ ap wordsOf (tallied-draws m s₀ (tally calls))
-      ∙ tallied-words s₀ (iterate oneDraw m (tally calls))
+      ∙ ap wordsOf (tallied-draws m s₀ t)
+      ∙ tallied-words s₀ (iterate oneDraw m t)
 
-  drawn-on : (m n : ℕ) → m ≡ n → iterate nextOf m s ≡ tallied s₀ (iterate oneDraw n (tally calls))
-  drawn-on m n q = ap₂ (λ (k : ℕ) (x : Philox4x32X8). iterate nextOf k x) q e ∙ tallied-draws n s₀ (tally calls)
+  drawn-on : (m n : ℕ) → m ≡ n → iterate nextOf m s ≡ tallied s₀ (iterate oneDraw n t)
+  drawn-on m n q = ap₂ (λ (k : ℕ) (x : Philox4x32X8). iterate nextOf k x) q e ∙ tallied-draws n s₀ t
 
-  stands : (c : Call) → Step s c → rngOf c ≡ tallied s₀ (tally (c ∷ calls))
+  stands : (c : Call) → Step s c → rngOf c ≡ tallied s₀ (tallyAfter t c)
   unfolding drawn
-  stands (draw r) h = ap (λ (x : Draw). x .rng) h ∙ ap nextOf e ∙ tallied-draw s₀ (tally calls)
-  stands (group r) h = ap (λ (x : Blocks). x .rng) h ∙ ap (λ (x : Philox4x32X8). grouped x .rng) e ∙ tallied-group s₀ (tally calls)
-  stands (seek n u64 r) h = h ∙ ap (λ (x : Philox4x32X8). sought x n) e ∙ tallied-seek s₀ (tally calls) n u64
+  stands (draw r) h = ap (λ (x : Draw). x .rng) h ∙ ap nextOf e ∙ tallied-draw s₀ t
+  stands (group r) h = ap (λ (x : Blocks). x .rng) h ∙ ap (λ (x : Philox4x32X8). grouped x .rng) e ∙ tallied-group s₀ t
+  stands (seek n u64 r) h = h ∙ ap (λ (x : Philox4x32X8). sought x n) e ∙ tallied-seek s₀ t n u64
   stands (fill K before after r) h = h .state ∙ drawn-on (r .draws) _ (h .count)
   stands (bytes k before after r) h = h .state ∙ drawn-on (r .draws) _ (draws-made h)
 
-  right : (c : Call) → Step s c → Right s₀ (tally calls) s c
+  right : (c : Call) → Step s c → Right s₀ t s c
   unfolding drawn grouped sought tallied iterate
   right (draw r) h = ap (λ (x : Draw). x .words) h ∙ drawn-words 0
   right (group r) h =
@@ -58,36 +57,46 @@ module _ (s₀ : Philox4x32X8) (calls : List Call) {s : Philox4x32X8} (e : s ≡
   right (fill K before after r) h = right-fill _ drawn-words h
   right (bytes k before after r) h = right-bytes h _ drawn-words
 
-  -- what the call reported is what is counted
-  counts : (c : Call) → Step s c → reported calls ≡ tally calls .d → reported (c ∷ calls) ≡ tally (c ∷ calls) .d
+  -- what the call reported is what is counted, where m were reported before it
+  counts : {m : ℕ} (c : Call) → Step s c → m ≡ t .d → reportedAfter m c ≡ tallyAfter t c .d
   unfolding oneDraw
   counts (draw r) h q = omega (arith, q)
   counts (group r) h q = q
   counts (seek n u64 r) h q = refl
-  counts (fill K before after r) h q = omega (arith, q, h .count, draws-count (drawsFor K (length before)) (tally calls) .0)
-  counts (bytes k before after r) h q = counted (unless (r .refusal) (r .draws) 0) (unless (refusalOf k (length before)) (bytesDraws k (length before)) 0) (draws-reported h ∙ draws-made h)
+  counts (fill K before after r) h q = omega (arith, q, h .count, draws-count (drawsFor K (length before)) t .0)
+  counts {m} (bytes k before after r) h q = counted _ _ (draws-reported h ∙ draws-made h)
     where
-      counted : (m n : ℕ) → m ≡ n → reported calls + m ≡ iterate oneDraw n (tally calls) .d
-      counted m n e′ = omega (arith, q, e′, draws-count n (tally calls) .0)
+      counted : (l n : ℕ) → l ≡ n → m + l ≡ iterate oneDraw n t .d
+      counted l n e′ = omega (arith, q, e′, draws-count n t .0)
 
 -- ---- a whole list
-whole : (s₀ : Philox4x32X8) → s₀ ≡ tallied s₀ start → {calls : List Call} → Run s₀ calls
-    → (rngAfter s₀ calls ≡ tallied s₀ (tally calls)) × AllRight s₀ calls × (reported calls ≡ tally calls .d)
-whole s₀ e none = (e, tt, refl)
-whole s₀ e (then {c = c} {calls = calls} r h) =
-    let w = whole s₀ e r in
-    (stands s₀ calls (w .0) c h, (right s₀ calls (w .0) c h, w .1), counts s₀ calls (w .0) c h (w .2))
+record Whole (s₀ : Philox4x32X8) (calls : List Call) : Type 0 where
+  rng : rngAfter s₀ calls ≡ tallied s₀ (tally calls)
+  draws : reported calls ≡ tally calls .d
+  outputs : AllRight s₀ calls
+
+whole : (s₀ : Philox4x32X8) → s₀ ≡ tallied s₀ start → {calls : List Call} → Run s₀ calls → Whole s₀ calls
+whole s₀ e r = along r (Whole s₀) (record { rng = e; draws = refl; outputs = tt }) more
+  where
+    more : (c : Call) (calls : List Call) → Whole s₀ calls → Step (rngAfter s₀ calls) c → Whole s₀ (c ∷ calls)
+    more c calls w h =
+        let t : Tally = tally calls in
+        record {
+          rng = stands s₀ t (w .rng) c h;
+          draws = counts s₀ t (w .rng) c h (w .draws);
+          outputs = (right s₀ t (w .rng) c h, w .outputs);
+        }
 
 pub draws-add-up : DrawsAddUp
 unfolding tallied
 draws-add-up seed stream s₀ calls e r =
     let w = whole s₀ (e ∙ tallied-start seed stream ∙ ap (λ (s : Philox4x32X8). tallied s start) (sym e)) r in
     record {
-      key = ap (λ (s : Philox4x32X8). s .key) (w .0);
-      stream = ap (λ (s : Philox4x32X8). s .stream) (w .0);
-      draws = w .2;
-      counter = ap (λ (s : Philox4x32X8). s .counter) (w .0);
-      waits = ap (λ (s : Philox4x32X8). s .waiting) (w .0);
-      pending = ap (λ (s : Philox4x32X8). s .pending) (w .0);
-      outputs = w .1;
+      key = ap (λ (s : Philox4x32X8). s .key) (w .rng);
+      stream = ap (λ (s : Philox4x32X8). s .stream) (w .rng);
+      draws = w .draws;
+      counter = ap (λ (s : Philox4x32X8). s .counter) (w .rng);
+      waits = ap (λ (s : Philox4x32X8). s .waiting) (w .rng);
+      pending = ap (λ (s : Philox4x32X8). s .pending) (w .rng);
+      outputs = w .outputs;
     }

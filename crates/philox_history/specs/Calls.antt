@@ -1,8 +1,9 @@
 -- Lists of calls on one Philox generator (the scope document, "Lists of calls"). A list has its latest call first, so that its tail is what
 -- came before its head.
-use mathlib.Core.List.{List, [], _∷_}
+use mathlib.Core.List.{List}
 use mathlib.Core.Path.{_≡_}
 use Prim.Native.Nat.{ℕ, _^_, _<_}
+use Rattle.base.specs.Lists as lists
 use Rattle.fills.specs.Fill.{Kind, Filled}
 use Rattle.fills.specs.FillBytes.{FilledBytes}
 use Rattle.philox_x8.specs.Machine.{drawn, grouped, sought, engine}
@@ -39,10 +40,8 @@ rngOf (bytes k before after r) = r .rng
 
 -- the generator after a list of calls that began with s₀
 abbrev pub rngAfter : Philox4x32X8 → List Call → Philox4x32X8
-rngAfter s₀ [] = s₀
-rngAfter s₀ (c ∷ calls) = rngOf c
+rngAfter = lists.endOf rngOf
 
 -- the calls were made one after another, each on the generator that the one before it handed back
-pub data Run (s₀ : Philox4x32X8) : List Call → Type 1 where
-  none : Run s₀ []
-  then : {c : Call} {calls : List Call} → Run s₀ calls → Step (rngAfter s₀ calls) c → Run s₀ (c ∷ calls)
+abbrev pub Run : Philox4x32X8 → List Call → Type 1
+Run = lists.Run Step rngOf

@@ -1,13 +1,14 @@
 -- What holds after every list of calls on the generator that `new` or `from_seed` returned: demand 3, Philox (the scope document, "Philox",
 -- the paragraph after the plain machine).
 use mathlib.Core.Bool.{Bool, cond}
-use mathlib.Core.List.{List, [], _∷_}
+use mathlib.Core.List.{List}
 use mathlib.Core.Path.{_≡_}
 use Prim.Native.Nat.{ℕ, _+_, _*_, _%_, _^_}
 use lib.Dec.{eqb}
 use lib.ListN.{length}
 use Rattle.base.specs.Refused.{unless}
 use Rattle.base.specs.Iterate.{iterate}
+use Rattle.base.specs.Lists.{folded, Each}
 use Rattle.fills.specs.Fill.{roundUp, drawsFor}
 use Rattle.fills.specs.FillBytes.{refusalOf, bytesDraws}
 use Rattle.fills.specs.Handed.{RightFill, RightBytes}
@@ -42,23 +43,28 @@ oneDraw t = record { a = t .a; g = t .g; d = t .d + 1; from = cond (waitsOf t) (
 abbrev pub oneGroup : Tally → Tally
 oneGroup t = record { a = t .a; g = t .g + 1; d = t .d; from = t .from }
 
--- a fill's draws count in d, one after another
-abbrev pub tally : List Call → Tally
-tally [] = start
-tally (draw r ∷ calls) = oneDraw (tally calls)
-tally (group r ∷ calls) = oneGroup (tally calls)
-tally (seek n u64 r ∷ calls) = record { a = n; g = 0; d = 0; from = 0 }
-tally (fill K before after r ∷ calls) = iterate oneDraw (drawsFor K (length before)) (tally calls)
-tally (bytes k before after r ∷ calls) = iterate oneDraw (unless (refusalOf k (length before)) (bytesDraws k (length before)) 0) (tally calls)
+-- the tally after a call, where it was t before it: a fill's draws count in d, one after another
+abbrev pub tallyAfter : Tally → Call → Tally
+tallyAfter t (draw r) = oneDraw t
+tallyAfter t (group r) = oneGroup t
+tallyAfter t (seek n u64 r) = record { a = n; g = 0; d = 0; from = 0 }
+tallyAfter t (fill K before after r) = iterate oneDraw (drawsFor K (length before)) t
+tallyAfter t (bytes k before after r) = iterate oneDraw (unless (refusalOf k (length before)) (bytesDraws k (length before)) 0) t
 
--- the draws that the calls since the last seek reported: a single draw 1, an accepted fill the draws that it returned
+abbrev pub tally : List Call → Tally
+tally calls = folded tallyAfter start calls
+
+-- the draws that the calls since the last seek reported, after a call, where they were m before it: a single draw 1, an accepted fill the
+-- draws that it returned
+abbrev pub reportedAfter : ℕ → Call → ℕ
+reportedAfter m (draw r) = m + 1
+reportedAfter m (group r) = m
+reportedAfter m (seek n u64 r) = 0
+reportedAfter m (fill K before after r) = m + r .draws
+reportedAfter m (bytes k before after r) = m + unless (r .refusal) (r .draws) 0
+
 abbrev pub reported : List Call → ℕ
-reported [] = 0
-reported (draw r ∷ calls) = reported calls + 1
-reported (group r ∷ calls) = reported calls
-reported (seek n u64 r ∷ calls) = 0
-reported (fill K before after r ∷ calls) = reported calls + r .draws
-reported (bytes k before after r ∷ calls) = reported calls + unless (r .refusal) (r .draws) 0
+reported calls = folded reportedAfter 0 calls
 
 -- ---- what the calls handed out, by the key and stream of s₀
 -- the words of the draw made where the tally is t: an odd draw has the lower words of the group at the counter before it; the next even draw
@@ -82,8 +88,7 @@ Right s₀ t s (fill K before after r) = RightFill (λ m. wordsAt s₀ (iterate 
 Right s₀ t s (bytes k before after r) = RightBytes (λ m. wordsAt s₀ (iterate oneDraw m t)) k before after s (r .refusal) (r .draws) (r .rng)
 
 abbrev pub AllRight : Philox4x32X8 → List Call → Type 0
-AllRight s₀ [] = Unit {0}
-AllRight s₀ (c ∷ calls) = Right s₀ (tally calls) (rngAfter s₀ calls) c × AllRight s₀ calls
+AllRight s₀ = Each (λ calls c. Right s₀ (tally calls) (rngAfter s₀ calls) c)
 
 -- ---- the claim. A constructor handed back s₀, and the calls were made on it
 pub record History (s₀ : Philox4x32X8) (calls : List Call) : Type 0 where

@@ -1,18 +1,19 @@
 -- The claim of specs/History.antt. Assumes nothing.
-use mathlib.Core.List.{[], _∷_}
+use mathlib.Core.List.{List, [], _∷_}
 use mathlib.Core.Path.{_≡_, refl, sym, ap, _∙_}
 use Prim.Native.Nat.{ℕ, _+_}
 use native.Mathlib.Nat.{add-zero}
 use native.Mathlib.Omega.{arith}
 use Rattle.base.specs.Iterate.{iterate}
+use Rattle.base.proofs.Lists.{along}
 use Rattle.fills.proofs.Handed.{right-fill, right-bytes, draws-made, draws-reported}
 use Rattle.xoshiro.specs.Xoshiro256pp.{State, seeded}
 use Rattle.xoshiro_x8.specs.Calls.{drawn, blockJumps, placed, movedBlocks}
 use Rattle.xoshiro_x8.specs.declared.Placed.{Placed}
 use Rattle.xoshiro_x8.specs.declared.Xoshiro256ppX8.{Xoshiro256ppX8}
 use Rattle.xoshiro_x8.proofs.Theorems.{lanes-start}
-use Rattle.xoshiro_history.specs.Calls.{Call, draw, fill, bytes, move, Step, rngOf, none, then}
-use Rattle.xoshiro_history.specs.History.{drawsReported, jumpsReported, drawsCounted, jumpsCounted, D, J, Right, DrawsAddUp}
+use Rattle.xoshiro_history.specs.Calls.{Call, draw, fill, bytes, move, Step, rngOf, rngAfter}
+use Rattle.xoshiro_history.specs.History.{drawsReported, jumpsReported, drawsCounted, jumpsCounted, D, J, Right, History, DrawsAddUp}
 use Rattle.xoshiro_history.proofs.Lanes.{At, at-same, at-draws, at-move, words-at}
 
 -- one call: it reports what is counted, what it handed out is right, and the lanes stand where they should
@@ -55,17 +56,21 @@ one {d = d} a (move n r) h =
 
 pub draws-add-up : DrawsAddUp
 unfolding placed iterate
-draws-add-up seed b p _ e none =
-    let a : At (seeded seed) 0 (blockJumps b) (placed seed b .rng) = record { lane = lanes-start seed b } in
-    let at : At (seeded seed) 0 (J b []) (p .rng) = at-same a refl (omega arith) (ap (λ (x : Placed). x .rng) e) in
-    record { draws = refl; jumps-total = omega (arith, ap (λ (x : Placed). x .jumps) e); lanes = at .lane; outputs = tt }
-draws-add-up seed b p _ e (then {c = c} {calls = calls} r h) =
-    let w = draws-add-up seed b p calls e r in
-    let o = one (record { lane = w .lanes }) c h in
-    let at : At (seeded seed) (D (c ∷ calls)) (J b (c ∷ calls)) (rngOf c) = at-same (o .at) refl (omega arith) refl in
-    record {
-      draws = omega (arith, w .draws, o .draws);
-      jumps-total = omega (arith, w .jumps-total, o .jumps);
-      lanes = at .lane;
-      outputs = (o .right, w .outputs);
-    }
+draws-add-up seed b p calls e r = along r (History seed b p) begun more
+  where
+    begun : History seed b p []
+    begun =
+        let a : At (seeded seed) 0 (blockJumps b) (placed seed b .rng) = record { lane = lanes-start seed b } in
+        let at : At (seeded seed) 0 (J b []) (p .rng) = at-same a refl (omega arith) (ap (λ (x : Placed). x .rng) e) in
+        record { draws = refl; jumps-total = omega (arith, ap (λ (x : Placed). x .jumps) e); lanes = at .lane; outputs = tt }
+
+    more : (c : Call) (calls : List Call) → History seed b p calls → Step (rngAfter (p .rng) calls) c → History seed b p (c ∷ calls)
+    more c calls w h =
+        let o = one (record { lane = w .lanes }) c h in
+        let at : At (seeded seed) (D (c ∷ calls)) (J b (c ∷ calls)) (rngOf c) = at-same (o .at) refl (omega arith) refl in
+        record {
+          draws = omega (arith, w .draws, o .draws);
+          jumps-total = omega (arith, w .jumps-total, o .jumps);
+          lanes = at .lane;
+          outputs = (o .right, w .outputs);
+        }

@@ -1,8 +1,9 @@
 -- Lists of calls on one eight-lane generator (the scope document, "Lists of calls"). A list has its latest call first, so that its tail is
 -- what came before its head.
-use mathlib.Core.List.{List, [], _∷_}
+use mathlib.Core.List.{List}
 use mathlib.Core.Path.{_≡_}
 use Prim.Native.Nat.{ℕ}
+use Rattle.base.specs.Lists as lists
 use Rattle.fills.specs.Fill.{Kind, Filled}
 use Rattle.fills.specs.FillBytes.{FilledBytes}
 use Rattle.xoshiro_x8.specs.Calls.{drawn, movedBlocks, engine}
@@ -36,10 +37,8 @@ rngOf (move n r) = r .rng
 
 -- the generator after a list of calls that began with g₀
 abbrev pub rngAfter : Xoshiro256ppX8 → List Call → Xoshiro256ppX8
-rngAfter g₀ [] = g₀
-rngAfter g₀ (c ∷ calls) = rngOf c
+rngAfter = lists.endOf rngOf
 
 -- the calls were made one after another, each on the generator that the one before it handed back
-pub data Run (g₀ : Xoshiro256ppX8) : List Call → Type 1 where
-  none : Run g₀ []
-  then : {c : Call} {calls : List Call} → Run g₀ calls → Step (rngAfter g₀ calls) c → Run g₀ (c ∷ calls)
+abbrev pub Run : Xoshiro256ppX8 → List Call → Type 1
+Run = lists.Run Step rngOf

@@ -1,8 +1,9 @@
 -- What holds after every list of calls on the generator that `from_seed` or `from_seed_block` returned: demand 3, eight lanes.
-use mathlib.Core.List.{List, [], _∷_}
+use mathlib.Core.List.{List}
 use mathlib.Core.Path.{_≡_}
 use Prim.Native.Nat.{ℕ, _+_, _<_}
 use lib.ListN.{length}
+use Rattle.base.specs.Lists.{total, Each}
 use Rattle.base.specs.Refused.{unless}
 use Rattle.base.specs.Table.{table}
 use Rattle.fills.specs.Fill.{drawsFor}
@@ -14,10 +15,6 @@ use Rattle.xoshiro_x8.specs.Calls.{blockJumps, placed}
 use Rattle.xoshiro_x8.specs.declared.Placed.{Placed}
 use Rattle.xoshiro_x8.specs.declared.Xoshiro256ppX8.{Xoshiro256ppX8}
 use Rattle.xoshiro_history.specs.Calls.{Call, draw, fill, bytes, move, rngAfter, Run}
-
-abbrev pub total : (Call → ℕ) → List Call → ℕ
-total f [] = 0
-total f (c ∷ calls) = total f calls + f c
 
 -- ---- what the calls reported: an accepted fill the draws that it returned, a single draw 1, a block move the jumps that it returned
 abbrev pub drawsReported : Call → ℕ
@@ -65,8 +62,7 @@ Right s d j g (bytes k before after r) = RightBytes (λ m. wordsAt s (d + m) j) 
 Right s d j g (move n r) = r .jumps ≡ blockJumps n
 
 abbrev pub AllRight : ℕ → ℕ → Xoshiro256ppX8 → List Call → Type 0
-AllRight seed b g₀ [] = Unit {0}
-AllRight seed b g₀ (c ∷ calls) = Right (seeded seed) (D calls) (J b calls) (rngAfter g₀ calls) c × AllRight seed b g₀ calls
+AllRight seed b g₀ = Each (λ calls c. Right (seeded seed) (D calls) (J b calls) (rngAfter g₀ calls) c)
 
 -- ---- the claim. A constructor at seed and block b handed back p, and the calls were made on its generator
 pub record History (seed b : ℕ) (p : Placed) (calls : List Call) : Type 0 where
