@@ -1,11 +1,11 @@
 -- The table of specs/Claims.antt. Assumes nothing.
 use mathlib.Core.Path.{refl}
 use lib.Ieee.{round}
-use Rattle.units.specs.Unit.{dyadic, unit}
+use Rattle.floats.specs.units.Unit.{dyadic, unit}
 use Rattle.words.specs.Words.{shl, rotl}
-use Rattle.xoshiro.specs.Xoshiro256pp.{output, step}
-use Rattle.xoshiro_x8.specs.Calls.{movedBlocks}
-use Rattle.philox_x8.specs.Machine.{sought, holding, grouped, nextOf}
+use Rattle.xoshiro.specs.scalar.Xoshiro256pp.{output, step}
+use Rattle.xoshiro.specs.x8.Calls.{movedBlocks}
+use Rattle.philox.specs.x8.Machine.{sought, holding, grouped, nextOf}
 use Rattle.cases.specs.Claims.{Cases}
 
 pub cases : Cases

@@ -4,15 +4,15 @@ use mathlib.Core.Path.{_≡_}
 use Prim.Native.Nat.{_+_, _-_, _^_}
 use lib.IntN.{negsuc}
 use lib.Ieee.{binary32, binary64, fin}
-use Rattle.floats.specs.Numbers.{zero}
-use Rattle.units.specs.Unit.{unit}
+use Rattle.floats.specs.patterns.Numbers.{zero}
+use Rattle.floats.specs.units.Unit.{unit}
 use Rattle.fills.specs.Fill.{drawsFor}
 use Rattle.fills.specs.Kinds.{f64s, normalF64s}
-use Rattle.xoshiro.specs.Xoshiro256pp.{State, output, step}
-use Rattle.xoshiro_x8.specs.Calls.{movedBlocks}
-use Rattle.xoshiro_x8.specs.declared.Xoshiro256ppX8.{Xoshiro256ppX8}
-use Rattle.philox_x8.specs.Machine.{sought, grouped, nextOf}
-use Rattle.philox_x8.specs.declared.Philox4x32X8.{Philox4x32X8}
+use Rattle.xoshiro.specs.scalar.Xoshiro256pp.{State, output, step}
+use Rattle.xoshiro.specs.x8.Calls.{movedBlocks}
+use Rattle.xoshiro.specs.declared.x8.Xoshiro256ppX8.{Xoshiro256ppX8}
+use Rattle.philox.specs.x8.Machine.{sought, grouped, nextOf}
+use Rattle.philox.specs.declared.x8.Philox4x32X8.{Philox4x32X8}
 
 abbrev pub start : State
 start = record { w0 = 1; w1 = 2; w2 = 3; w3 = 4 }

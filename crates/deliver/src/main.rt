@@ -1,10 +1,13 @@
 // An order in, its numbers out: deliver ENGINE SEED BLOCK FIRST KIND COUNT [raw].
-use delivery::Delivery;
-ghost use mathlib.Core.Path.{_≡_};
-ghost use lib.ListN.{length};
+use delivery::parts;
+use delivery::parts::Delivery;
+use delivery::source;
 use libc::STDERR_FILENO;
 use libc::STDOUT_FILENO;
 use order::Order;
+use text::lines;
+ghost use mathlib.Core.Path.{_≡_};
+ghost use lib.ListN.{length};
 
 // Whether a write took everything. Where it did not, standard error says why.
 fn told(ok: bool) -> bool {
@@ -32,7 +35,7 @@ fn write_parts(d: Delivery, raw: bool, values: &mut [u8], text: &mut [u8]) -> bo
     let kind = d.kind;
     let mut rest = d;
     while rest.left > 0 {
-        let part = delivery::next_part(rest, values);
+        let part = parts::next_part(rest, values);
         let n = part.bytes;
         // never: it takes a kind that is none, or a small buffer
         if n == 0 {

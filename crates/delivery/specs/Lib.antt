@@ -1,2 +1,3 @@
-pub mod Delivery
-pub mod Claims
+pub mod source
+pub mod parts
+pub mod claims

@@ -9,7 +9,7 @@ use Rattle.base.specs.Stored.{stored}
 use Rattle.fills.specs.Buffer.{bytesKind, groupsAhead, drawsAhead, storedGroups}
 use Rattle.fills.specs.Fill.{roundUp}
 use Rattle.fills.specs.Kinds.{AnyKind, kindAt, of, u64s}
-use Rattle.kinds.proofs.Numbers.{past-6}
+use Rattle.fills.proofs.kinds.Numbers.{past-6}
 
 pub is-other : (k : ℕ) → (k ≡ 2 → ⊥) → (k ≡ 3 → ⊥) → (k ≡ 4 → ⊥) → (k ≡ 5 → ⊥) → (k ≡ 6 → ⊥) → kindAt k ≡ of u64s
 unfolding kindAt

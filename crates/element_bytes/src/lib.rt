@@ -1,4 +1,11 @@
 // Groups of every kind as bytes, by the kind's number: elements little-endian, floats as their bits.
+use elements::f32s;
+use elements::f64s;
+use elements::groups;
+use elements::u32s;
+use elements::u64s;
+use normals::normal_f32s;
+use normals::normal_f64s;
 ghost use mathlib.Core.Path.{_≡_};
 ghost use Prim.Native.Nat.{_-_, _*_, _+_, _<_, _≤_};
 ghost use lib.ListN.{length};
@@ -12,21 +19,21 @@ pub fn put_group(kind: u64, out: &mut [u8], at: usize, w: [u64; 8])
     ensures { λ _. ⌜ now (out .exit) ≡ stored (now (out .entry)) at (bytesKind (kindAt kind .kind) .group (λ _. w)) ⌝ }
 {
     if kind == 2 {
-        return groups_u32::put_bytes(out, at, w);
+        return u32s::put_bytes(out, at, w);
     }
     if kind == 3 {
-        return groups_f32::put_bytes(out, at, w);
+        return f32s::put_bytes(out, at, w);
     }
     if kind == 4 {
-        return groups_f64::put_bytes(out, at, w);
+        return f64s::put_bytes(out, at, w);
     }
     if kind == 5 {
-        return groups_normal_f32::put_bytes(out, at, w);
+        return normal_f32s::put_bytes(out, at, w);
     }
     if kind == 6 {
-        return groups_normal_f64::put_bytes(out, at, w, w);
+        return normal_f64s::put_bytes(out, at, w, w);
     }
-    groups_u64::put_bytes(out, at, w);
+    u64s::put_bytes(out, at, w);
 }
 
 // The bytes of the groups of the buffer `b` in the places from `at` on, as far as both go. The kind is chosen once for a buffer, not for each
@@ -35,21 +42,21 @@ pub fn map_bytes(kind: u64, out: &mut [u8], at: usize, b: &[u64; 128])
     ensures { λ _. ⌜ now (out .exit) ≡ storedGroups (bytesKind (kindAt kind .kind)) (now (b .entry)) (now (out .entry)) at (groupsAhead (bytesKind (kindAt kind .kind)) (length (now (out .entry)) - at)) ⌝ }
 {
     if kind == 2 {
-        return groups_u32::map_bytes(out, at, b);
+        return u32s::map_bytes(out, at, b);
     }
     if kind == 3 {
-        return groups_f32::map_bytes(out, at, b);
+        return f32s::map_bytes(out, at, b);
     }
     if kind == 4 {
-        return groups_f64::map_bytes(out, at, b);
+        return f64s::map_bytes(out, at, b);
     }
     if kind == 5 {
-        return groups_normal_f32::map_bytes(out, at, b);
+        return normal_f32s::map_bytes(out, at, b);
     }
     if kind == 6 {
-        return groups_normal_f64::map_bytes(out, at, b);
+        return normal_f64s::map_bytes(out, at, b);
     }
-    groups_u64::map_bytes(out, at, b);
+    u64s::map_bytes(out, at, b);
 }
 
 // The draws of the groups that the bytes from `at` on of a slice of length `len` begin, at most 16: each draw makes 64 bytes.

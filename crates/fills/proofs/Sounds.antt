@@ -7,7 +7,7 @@ use lib.Dec.{lit<, lit≤}
 use lib.ListN.{length, getD, length-append, length-map}
 use lib.Ieee.{Format, binary32, binary64}
 use Rattle.base.specs.Zip.{zipWith}
-use Rattle.units.specs.Unit.{unit, oneMinusUnit}
+use Rattle.floats.specs.units.Unit.{unit, oneMinusUnit}
 use Rattle.math.specs.BoxMuller.{cosHalf, sinHalf}
 use Rattle.fills.specs.Kinds.{lows, highs, u64s, u32s, f32s, f64s, normalsOf, normalF32s, normalF64s, AnyKind, of, kinds, kindAt}
 use Rattle.fills.proofs.Filling.{Sound}

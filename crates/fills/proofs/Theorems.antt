@@ -15,8 +15,8 @@ use Rattle.base.specs.Bytes.{flat}
 use Rattle.base.specs.Iterate.{iterate}
 use Rattle.base.specs.Table.{table}
 use Rattle.base.specs.Zip.{zipWith}
-use Rattle.floats.specs.Numbers as numbers
-use Rattle.units.specs.Unit.{unit, oneMinusUnit}
+use Rattle.floats.specs.patterns.Numbers as numbers
+use Rattle.floats.specs.units.Unit.{unit, oneMinusUnit}
 use Rattle.math.specs.BoxMuller.{cosHalf, sinHalf}
 use Rattle.fills.specs.Fill.{drawsFor, element}
 use Rattle.fills.specs.Kinds.{lows, highs, u32s, normalsOf, kindAt}

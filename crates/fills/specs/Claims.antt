@@ -7,7 +7,7 @@ use lib.Ieee.{Float, binary32, binary64}
 use lib.ListN.{length, getD}
 use Rattle.base.specs.Engine.{Engine}
 use Rattle.base.specs.Bytes.{flat}
-use Rattle.units.specs.Unit.{unit, oneMinusUnit}
+use Rattle.floats.specs.units.Unit.{unit, oneMinusUnit}
 use Rattle.math.specs.BoxMuller.{cosHalf, sinHalf}
 use Rattle.fills.specs.Fill.{roundUp, drawsFor, element, Filled}
 use Rattle.fills.specs.Kinds.{u64s, u32s, f32s, f64s, normalF32s, normalF64s, kinds, kindAt}

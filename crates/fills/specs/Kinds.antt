@@ -6,8 +6,8 @@ use lib.Dec.{leb}
 use lib.ListN.{length, getD}
 use lib.Ieee.{Float, Format, binary32, binary64, toBits}
 use Rattle.base.specs.Zip.{zipWith}
-use Rattle.floats.specs.Numbers as numbers
-use Rattle.units.specs.Unit.{unit, oneMinusUnit}
+use Rattle.floats.specs.patterns.Numbers as numbers
+use Rattle.floats.specs.units.Unit.{unit, oneMinusUnit}
 use Rattle.math.specs.BoxMuller.{cosHalf, sinHalf}
 use Rattle.fills.specs.Fill.{Kind}
 

@@ -1,3 +1,2 @@
-pub mod Numbers
-pub mod Domains
-pub mod Polynomial
+pub mod patterns
+pub mod units

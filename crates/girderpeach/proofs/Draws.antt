@@ -8,8 +8,8 @@ use lib.ListN.{length, getD}
 use Rattle.fills.specs.Fill.{drawsFor}
 use Rattle.fills.specs.FillBytes.{refusalOf, bytesDraws}
 use Rattle.fills.specs.Kinds.{AnyKind, u64s, of, kinds, kindAt}
-use Rattle.philox_x8.specs.Machine.{leftOf}
-use Rattle.philox_x8.specs.declared.Philox4x32X8.{Philox4x32X8}
+use Rattle.philox.specs.x8.Machine.{leftOf}
+use Rattle.philox.specs.declared.x8.Philox4x32X8.{Philox4x32X8}
 
 abbrev Few : AnyKind → Type 0
 Few K = (n : ℕ) → n < 2 ^ 64 → drawsFor (K .kind) (n / K .kind .width) < 2 ^ 63

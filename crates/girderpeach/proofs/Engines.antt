@@ -8,14 +8,14 @@ use lib.Dec.{eqb}
 use lib.ListN.{length}
 use Rattle.base.specs.Every.{every}
 use Rattle.base.specs.Table.{table}
-use Rattle.saved.specs.Fields.{fields}
-use Rattle.philox_saved.specs.Form as philox-form
-use Rattle.philox_saved.specs.Form.{markIn, waitingIn, ofFields, isForm, refused, ofForm}
-use Rattle.xoshiro.specs.declared.Xoshiro256pp.{Xoshiro256pp}
-use Rattle.xoshiro_saved.specs.Form.{layout, laneIn, loaded}
-use Rattle.philox_saved.specs.declared.Loaded.{Loaded}
-use Rattle.xoshiro_x8.specs.declared.LanesAnswer.{LanesAnswer}
-use Rattle.xoshiro_x8.specs.Calls.{isValid, fromLanes, ofLanes, blank8}
+use Rattle.saved.specs.fields.Fields.{fields}
+use Rattle.saved.specs.philox4x32.Form as philox-form
+use Rattle.saved.specs.philox4x32.Form.{markIn, waitingIn, ofFields, isForm, refused, ofForm}
+use Rattle.xoshiro.specs.declared.scalar.Xoshiro256pp.{Xoshiro256pp}
+use Rattle.saved.specs.xoshiro256pp.Form.{layout, laneIn, loaded}
+use Rattle.saved.specs.declared.philox4x32.Loaded.{Loaded}
+use Rattle.xoshiro.specs.declared.x8.LanesAnswer.{LanesAnswer}
+use Rattle.xoshiro.specs.x8.Calls.{isValid, fromLanes, ofLanes, blank8}
 use Rattle.girderpeach.specs.Philox as philox
 use Rattle.girderpeach.specs.Xoshiro as xoshiro
 use Rattle.girderpeach.proofs.Host.{Sound}

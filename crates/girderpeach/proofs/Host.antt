@@ -13,7 +13,7 @@ use Rattle.base.proofs.Refused.{unless-none, unless-some}
 use Rattle.base.specs.Refused.{unless}
 use Rattle.base.specs.Iterate.{iterate}
 use Rattle.fills.specs.FillBytes.{refusalOf, bytesWritten, bytesDraws, FilledBytes}
-use Rattle.saved.specs.Saved.{Saved, lengthRefusal}
+use Rattle.saved.specs.fields.Saved.{Saved, lengthRefusal}
 use Rattle.girderpeach.specs.Host.{answerOf, firstOf, Called, Forms, fillRefusal, HostFill}
 use Rattle.girderpeach.proofs.Draws.{few-draws, few-kind-refusals}
 

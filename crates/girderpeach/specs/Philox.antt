@@ -2,11 +2,11 @@
 use mathlib.Core.List.{List}
 use Prim.Native.Nat.{ℕ}
 use lib.IntN.{ℤ}
-use Rattle.saved.specs.Fields.{sizeOf}
-use Rattle.saved.specs.Saved.{lengthRefusal}
-use Rattle.philox_saved.specs.Form.{layout, formOf, loaded}
-use Rattle.philox_x8.specs.Machine.{engine, fresh, sought, leftOf}
-use Rattle.philox_x8.specs.declared.Philox4x32X8.{Philox4x32X8}
+use Rattle.saved.specs.fields.Fields.{sizeOf}
+use Rattle.saved.specs.fields.Saved.{lengthRefusal}
+use Rattle.saved.specs.philox4x32.Form.{layout, formOf, loaded}
+use Rattle.philox.specs.x8.Machine.{engine, fresh, sought, leftOf}
+use Rattle.philox.specs.declared.x8.Philox4x32X8.{Philox4x32X8}
 use Rattle.girderpeach.specs.Host.{answerOf, Called, Forms, HostFill}
 
 abbrev pub forms : Forms Philox4x32X8

@@ -4,11 +4,11 @@ use mathlib.Core.Path.{_≡_}
 use Prim.Native.Nat.{ℕ}
 use lib.IntN.{ℤ}
 use Rattle.base.specs.Refused.{unless}
-use Rattle.saved.specs.Fields.{sizeOf}
-use Rattle.saved.specs.Saved.{lengthRefusal}
-use Rattle.xoshiro_saved.specs.Form.{layout, formOf, loaded}
-use Rattle.xoshiro_x8.specs.Calls.{engine, placed, movedBlocks}
-use Rattle.xoshiro_x8.specs.declared.Xoshiro256ppX8.{Xoshiro256ppX8}
+use Rattle.saved.specs.fields.Fields.{sizeOf}
+use Rattle.saved.specs.fields.Saved.{lengthRefusal}
+use Rattle.saved.specs.xoshiro256pp.Form.{layout, formOf, loaded}
+use Rattle.xoshiro.specs.x8.Calls.{engine, placed, movedBlocks}
+use Rattle.xoshiro.specs.declared.x8.Xoshiro256ppX8.{Xoshiro256ppX8}
 use Rattle.girderpeach.specs.Host.{Called, Forms, HostFill}
 
 abbrev pub forms : Forms Xoshiro256ppX8

@@ -1,5 +1,7 @@
 // Girderpeach for C (include/girderpeach.h): fills of both engines from a saved form, which each accepted call replaces with the state after
 // it. An answer is a number, or minus a refusal's number; a refused call changes no byte.
+use saved::philox4x32;
+use saved::xoshiro256pp;
 ghost use mathlib.Core.Path.{_≡_};
 ghost use Prim.Native.Nat.{_≤_, _<_, _^_};
 ghost use Rattle.girderpeach.specs.Host.{answerOf};
@@ -22,17 +24,17 @@ fn answer_of(refusal: u64, value: u64) -> i64
 pub extern "C" fn gp_xoshiro_fill(form: &mut [u8], kind: u64, out: &mut [u8]) -> i64
     ensures { λ r. ⌜ Filled (now (form .entry)) kind (now (out .entry)) r (now (form .exit)) (now (out .exit)) ⌝ }
 {
-    let g = xoshiro_saved::load(form);
+    let g = xoshiro256pp::load(form);
     if g.refusal != 0 {
         return answer_of(g.refusal, 0);
     }
     let rng = g.rng;
-    let f = xoshiro_fill_bytes::fill_bytes(rng, kind, out);
+    let f = xoshiro_fills::bytes::fill_bytes(rng, kind, out);
     if f.refusal != 0 {
         return answer_of(f.refusal, 0);
     }
     let last = f.rng;
-    xoshiro_saved::save(last, form);
+    xoshiro256pp::save(last, form);
     answer_of(0, f.draws)
 }
 
@@ -40,17 +42,17 @@ pub extern "C" fn gp_xoshiro_fill(form: &mut [u8], kind: u64, out: &mut [u8]) ->
 pub extern "C" fn gp_philox_fill(form: &mut [u8], kind: u64, out: &mut [u8]) -> i64
     ensures { λ r. ⌜ philox.Filled (now (form .entry)) kind (now (out .entry)) r (now (form .exit)) (now (out .exit)) ⌝ }
 {
-    let g = philox_saved::load(form);
+    let g = philox4x32::load(form);
     if g.refusal != 0 {
         return answer_of(g.refusal, 0);
     }
     let rng = g.rng;
-    let f = philox_fill_bytes::fill_bytes(rng, kind, out);
+    let f = philox_fills::bytes::fill_bytes(rng, kind, out);
     if f.refusal != 0 {
         return answer_of(f.refusal, 0);
     }
     let last = f.rng;
-    philox_saved::save(last, form);
+    philox4x32::save(last, form);
     answer_of(0, f.draws)
 }
 
@@ -63,9 +65,9 @@ pub extern "C" fn gp_xoshiro_new(seed: u64, block: u64, form: &mut [u8], jumps: 
     if form.len() != 256 {
         return answer_of(1, 0);
     }
-    let start = xoshiro_x8::Xoshiro256ppX8::from_seed_block(seed, block);
+    let start = xoshiro::x8::Xoshiro256ppX8::from_seed_block(seed, block);
     let rng = start.rng;
-    xoshiro_saved::save(rng, form);
+    xoshiro256pp::save(rng, form);
     *jumps = start.jumps;
     0
 }
@@ -75,14 +77,14 @@ pub extern "C" fn gp_xoshiro_new(seed: u64, block: u64, form: &mut [u8], jumps: 
 pub extern "C" fn gp_xoshiro_jump_blocks(form: &mut [u8], n: u64, jumps: &mut u64) -> i64
     ensures { λ r. ⌜ JumpedBlocks n (now (form .entry)) (now (jumps .entry)) r (now (form .exit)) (now (jumps .exit)) ⌝ }
 {
-    let g = xoshiro_saved::load(form);
+    let g = xoshiro256pp::load(form);
     if g.refusal != 0 {
         return answer_of(g.refusal, 0);
     }
     let rng = g.rng;
     let moved = rng.jump_blocks(n);
     let after = moved.rng;
-    xoshiro_saved::save(after, form);
+    xoshiro256pp::save(after, form);
     *jumps = moved.jumps;
     0
 }
@@ -92,8 +94,8 @@ pub extern "C" fn gp_xoshiro_jump_blocks(form: &mut [u8], n: u64, jumps: &mut u6
 pub extern "C" fn gp_philox_new(seed: u64, stream: u64, form: &mut [u8]) -> i64
     ensures { λ r. ⌜ philox.New seed stream (now (form .entry)) r (now (form .exit)) ⌝ }
 {
-    let rng = philox_x8::Philox4x32X8::new(seed, stream);
-    let refusal = philox_saved::save(rng, form);
+    let rng = philox::x8::Philox4x32X8::new(seed, stream);
+    let refusal = philox4x32::save(rng, form);
     answer_of(refusal, 0)
 }
 
@@ -102,13 +104,13 @@ pub extern "C" fn gp_philox_new(seed: u64, stream: u64, form: &mut [u8]) -> i64
 pub extern "C" fn gp_philox_seek(form: &mut [u8], block: u64) -> i64
     ensures { λ r. ⌜ philox.Sought block (now (form .entry)) r (now (form .exit)) ⌝ }
 {
-    let g = philox_saved::load(form);
+    let g = philox4x32::load(form);
     if g.refusal != 0 {
         return answer_of(g.refusal, 0);
     }
     let rng = g.rng;
     let after = rng.seek(block);
-    philox_saved::save(after, form);
+    philox4x32::save(after, form);
     0
 }
 
@@ -117,7 +119,7 @@ pub extern "C" fn gp_philox_seek(form: &mut [u8], block: u64) -> i64
 pub extern "C" fn gp_philox_draws_left(form: &[u8]) -> i64
     ensures { λ r. ⌜ r ≡ philox.drawsLeft (now (form .entry)) ⌝ }
 {
-    let g = philox_saved::load(form);
+    let g = philox4x32::load(form);
     if g.refusal != 0 {
         return answer_of(g.refusal, 0);
     }

@@ -10,7 +10,7 @@ use lib.Dec.{T, leb, lit<, lit≤}
 use lib.IntN.{ℤ, negsuc}
 use lib.Ieee.{Float, Format, binary32, binary64, nan, inf, fin, hid, ones, top, le, lt, eq, fits, isNan, nanBits, toBits, ofBits}
 use lib.Ieee.Bits.{toBits-lt}
-use Rattle.floats.proofs.Nan.{nan-pattern, number-pattern}
+use Rattle.floats.proofs.patterns.Nan.{nan-pattern, number-pattern}
 use Rattle.math.proofs.Order.{at-most, at-least}
 
 -- the guess's pattern: c less half the pattern b

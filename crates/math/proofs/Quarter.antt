@@ -14,7 +14,7 @@ use lib.Pow.{pow-add, pow-pos, pow-mono}
 use lib.Ieee.{Float, fin, Format, binary32, binary64, prec, emax, low, hid, top, up, down, size, nearest, units, round, toBits, fits, unlike, mul, add, sum}
 use lib.Ieee.Digits.{size-lt, size-le}
 use lib.Ieee.Fits.{round-is, core, down-pos, nearest-le}
-use Rattle.units.proofs.Exact.{mul-values, sub-mul}
+use Rattle.floats.proofs.units.Exact.{mul-values, sub-mul}
 use Rattle.math.specs.Claims.{modulo4}
 use Rattle.math.proofs.Values.{digits-lt, fine, exponent}
 use lib.Ieee.Nearest.{closest, closest-same}

@@ -10,8 +10,8 @@ use lib.Ieee.{Float, fin, Format, binary32, binary64, up, down, le, lt, emax}
 use lib.Ieee.Fits.{and-i, down-pos}
 use lib.Ieee.Exact.{HasValue}
 use lib.Ieee.Order.{le-of-values}
-use Rattle.floats.specs.Domains.{positiveNormal, isU1, isU2}
-use Rattle.floats.specs.Numbers.{zero, one, least, most}
+use Rattle.floats.specs.patterns.Domains.{positiveNormal, isU1, isU2}
+use Rattle.floats.specs.patterns.Numbers.{zero, one, least, most}
 
 least-value : (f : Format) → HasValue (least f) false 1 (2 ^ (emax f - 1))
 least-value binary32 = (refl, refl)

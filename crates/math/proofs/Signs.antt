@@ -9,7 +9,7 @@ use lib.Dec.{T, eqb}
 use lib.Ieee.{Float, Format, binary32, binary64, nan, inf, fin, up, down, unlike, round, mul, neg, fits, emax, hid, top, ofBits}
 use lib.Ieee.Fits.{neg-fits, add-fits, mul-fits, cond-fits}
 use Rattle.math.specs.Turns.{signOf, sinPoly, cosPoly, cosCoefficients64}
-use Rattle.floats.specs.Polynomial.{horner}
+use Rattle.floats.specs.patterns.Polynomial.{horner}
 use Rattle.math.proofs.Values.{round-self}
 
 unlike-not : (s t : Bool) → unlike s t ≡ cond t (not s) s

@@ -7,14 +7,14 @@ use lib.Dec.{T, ltb, ltb→lt}
 use lib.IntN.{ℤ, pos}
 use lib.Ieee.{Format, binary32, binary64, fin, up, down, emax, prec, lt, round, add, sub, mul, div, neg, ofInt, ofBits, toBits}
 use lib.Ieee.Fits.{and-l, and-r}
-use Rattle.floats.specs.Domains.{reach, inReach}
-use Rattle.floats.specs.Polynomial.{horner}
+use Rattle.floats.specs.patterns.Domains.{reach, inReach}
+use Rattle.floats.specs.patterns.Polynomial.{horner}
 use Rattle.math.specs.BoxMuller.{minusTwice}
 use Rattle.math.specs.Ln.{exponent32, exponent64, coefficients32, coefficients64, reduced32, reduced64, lnBits32, lnBits64, ln}
 use Rattle.math.specs.Turns.{shifted, quarter}
 use Rattle.math.specs.Sqrt.{guessOf, newtonStep, corrected, sqrt}
-use Rattle.units.specs.Unit.{digits, places, unit, oneMinusUnit}
-use Rattle.units.proofs.Theorems.{digits-lt, unit-exact, one-minus-unit-exact}
+use Rattle.floats.specs.units.Unit.{digits, places, unit, oneMinusUnit}
+use Rattle.floats.proofs.units.Theorems.{digits-lt, unit-exact, one-minus-unit-exact}
 use Rattle.math.specs.Claims.{QuarterNearest, AtOne, UnitsPass}
 use Rattle.math.proofs.Quarter as quarters
 use Rattle.math.proofs.Range.{first-passes, second-passes}

@@ -1,6 +1,6 @@
 -- The Box-Muller transform of math.rs, one lane. Each operation is rounded once, in the Rust's order.
 use lib.Ieee.{Float, Format, mul}
-use Rattle.floats.specs.Numbers.{minusLit}
+use Rattle.floats.specs.patterns.Numbers.{minusLit}
 use Rattle.math.specs.Ln.{ln}
 use Rattle.math.specs.Sqrt.{sqrt}
 use Rattle.math.specs.Turns.{sinTurns, cosTurns}

@@ -6,13 +6,13 @@ use lib.Dec.{T}
 use lib.IntN.{ℤ, pos}
 use lib.Ieee.{Float, Format, fin, fits, up, down}
 use lib.Ieee.Nearest.{closest}
-use Rattle.floats.specs.Domains.{inReach, isU1, isU2}
-use Rattle.floats.specs.Numbers.{zero, one}
+use Rattle.floats.specs.patterns.Domains.{inReach, isU1, isU2}
+use Rattle.floats.specs.patterns.Numbers.{zero, one}
 use Rattle.math.specs.BoxMuller.{minusTwice}
 use Rattle.math.specs.Ln.{ln}
 use Rattle.math.specs.Turns.{quarter}
 use Rattle.math.specs.Sqrt.{sqrt}
-use Rattle.units.specs.Unit.{wide, unit, oneMinusUnit}
+use Rattle.floats.specs.units.Unit.{wide, unit, oneMinusUnit}
 
 -- n modulo 4, or - n modulo 4
 abbrev pub modulo4 : Bool → ℕ → ℕ

@@ -4,8 +4,8 @@ use mathlib.Core.List.{List, [], _∷_}
 use Prim.Native.Nat.{ℕ, _+_, _*_, _/_, _%_, _^_}
 use lib.IntN.{subℕ}
 use lib.Ieee.{Float, Format, binary32, binary64, add, sub, mul, div, lt, ofInt, ofBits, toBits}
-use Rattle.floats.specs.Numbers.{lit, minusLit}
-use Rattle.floats.specs.Polynomial.{horner, over}
+use Rattle.floats.specs.patterns.Numbers.{lit, minusLit}
+use Rattle.floats.specs.patterns.Polynomial.{horner, over}
 
 -- sqrt(2)
 abbrev pub root2 : Format → Float

@@ -1,7 +1,7 @@
 -- The square root of math.rs, one lane. Each operation is rounded once, in the Rust's order.
 use Prim.Native.Nat.{_+_, _-_, _/_, _%_, _^_}
 use lib.Ieee.{Float, Format, binary32, binary64, add, sub, mul, ofBits, toBits}
-use Rattle.floats.specs.Numbers.{lit}
+use Rattle.floats.specs.patterns.Numbers.{lit}
 
 -- a guess at 1 / sqrt(v): a constant less half the pattern, in wrapping arithmetic, is the guess's pattern
 unfoldable pub guessOf : Format → Float → Float

@@ -6,8 +6,8 @@ use Prim.Native.Nat.{ℕ, _+_, _/_, _%_}
 use lib.Dec.{eqb}
 use lib.IntN.{pos}
 use lib.Ieee.{Float, Format, binary32, binary64, fin, add, sub, mul, neg, toBits}
-use Rattle.floats.specs.Numbers.{lit, minusLit}
-use Rattle.floats.specs.Polynomial.{horner, over}
+use Rattle.floats.specs.patterns.Numbers.{lit, minusLit}
+use Rattle.floats.specs.patterns.Polynomial.{horner, over}
 
 -- 1.5 * 2 ^ 23, 1.5 * 2 ^ 52
 abbrev pub magic : Format → Float

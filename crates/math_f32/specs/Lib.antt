@@ -1,2 +1,3 @@
-pub mod Calls
-pub mod Claims
+pub mod sincos_turns
+pub mod box_muller
+pub mod calls

@@ -1,2 +1,5 @@
-pub mod Calls
-pub mod Claims
+pub mod ln
+pub mod sincos_turns
+pub mod box_muller
+pub mod box_muller_x32
+pub mod calls

@@ -1,16 +1,18 @@
 // The float calls for a caller in C: the static library that tests/oracle links beside the Rust. Each answers the refusal's number,
 // and leaves in the lent arrays what the call's record holds.
+use floats::patterns;
+use floats::units;
 ghost use mathlib.Core.Path.{_≡_};
 ghost use lib.Ieee.{binary32, binary64, toBits};
-ghost use Rattle.math_f32.specs.Calls as f32s;
-ghost use Rattle.math_f64.specs.Calls as f64s;
-ghost use Rattle.units.specs.Unit.{unit, oneMinusUnit};
+ghost use Rattle.math_f32.specs.calls.Calls as f32s;
+ghost use Rattle.math_f64.specs.calls.Calls as f64s;
+ghost use Rattle.floats.specs.units.Unit.{unit, oneMinusUnit};
 
 #[no_mangle]
 pub extern "C" fn oracle_ln_f32(x: &[f32; 8], out: &mut [f32; 8]) -> u64
     ensures { λ r. ⌜ (r ≡ f32s.lnCall (now (x .entry)) .refusal) × (now (out .exit) ≡ f32s.lnCall (now (x .entry)) .value) ⌝ }
 {
-    let answer = math_f32::ln_f32(*x);
+    let answer = math_f32::calls::ln_f32(*x);
     let value = answer.value;
     *out = value;
     answer.refusal
@@ -20,7 +22,7 @@ pub extern "C" fn oracle_ln_f32(x: &[f32; 8], out: &mut [f32; 8]) -> u64
 pub extern "C" fn oracle_sqrt_f32(x: &[f32; 8], out: &mut [f32; 8]) -> u64
     ensures { λ r. ⌜ (r ≡ f32s.sqrtCall (now (x .entry)) .refusal) × (now (out .exit) ≡ f32s.sqrtCall (now (x .entry)) .value) ⌝ }
 {
-    let answer = math_f32::sqrt_f32(*x);
+    let answer = math_f32::calls::sqrt_f32(*x);
     let value = answer.value;
     *out = value;
     answer.refusal
@@ -34,7 +36,7 @@ pub extern "C" fn oracle_sincos_turns_f32(
 ) -> u64
     ensures { λ r. ⌜ (r ≡ f32s.sincosTurnsCall (now (t .entry)) .refusal) × (now (cos .exit) ≡ f32s.sincosTurnsCall (now (t .entry)) .value .cos) × (now (sin .exit) ≡ f32s.sincosTurnsCall (now (t .entry)) .value .sin) ⌝ }
 {
-    let answer = math_f32::sincos_turns_f32(*t);
+    let answer = math_f32::calls::sincos_turns_f32(*t);
     let value = answer.value;
     let c = value.cos;
     let s = value.sin;
@@ -52,7 +54,7 @@ pub extern "C" fn oracle_box_muller_f32(
 ) -> u64
     ensures { λ r. ⌜ (r ≡ f32s.boxMullerCall (now (u1 .entry)) (now (u2 .entry)) .refusal) × (now (cos .exit) ≡ f32s.boxMullerCall (now (u1 .entry)) (now (u2 .entry)) .value .cos) × (now (sin .exit) ≡ f32s.boxMullerCall (now (u1 .entry)) (now (u2 .entry)) .value .sin) ⌝ }
 {
-    let answer = math_f32::box_muller_f32(*u1, *u2);
+    let answer = math_f32::calls::box_muller_f32(*u1, *u2);
     let value = answer.value;
     let c = value.cos;
     let s = value.sin;
@@ -66,21 +68,21 @@ pub extern "C" fn oracle_box_muller_f32(
 pub extern "C" fn oracle_unit_f32(x: u32) -> u32
     ensures { λ r. ⌜ r ≡ toBits binary32 (unit binary32 x) ⌝ }
 {
-    floats::to_bits_f32(units::u32_to_unit_f32(x))
+    patterns::to_bits_f32(units::u32_to_unit_f32(x))
 }
 
 #[no_mangle]
 pub extern "C" fn oracle_one_minus_unit_f32(x: u32) -> u32
     ensures { λ r. ⌜ r ≡ toBits binary32 (oneMinusUnit binary32 x) ⌝ }
 {
-    floats::to_bits_f32(units::one_minus_unit_f32(x))
+    patterns::to_bits_f32(units::one_minus_unit_f32(x))
 }
 
 #[no_mangle]
 pub extern "C" fn oracle_ln_f64(x: &[f64; 8], out: &mut [f64; 8]) -> u64
     ensures { λ r. ⌜ (r ≡ f64s.lnCall (now (x .entry)) .refusal) × (now (out .exit) ≡ f64s.lnCall (now (x .entry)) .value) ⌝ }
 {
-    let answer = math_f64::ln_f64(*x);
+    let answer = math_f64::calls::ln_f64(*x);
     let value = answer.value;
     *out = value;
     answer.refusal
@@ -90,7 +92,7 @@ pub extern "C" fn oracle_ln_f64(x: &[f64; 8], out: &mut [f64; 8]) -> u64
 pub extern "C" fn oracle_sqrt_f64(x: &[f64; 8], out: &mut [f64; 8]) -> u64
     ensures { λ r. ⌜ (r ≡ f64s.sqrtCall (now (x .entry)) .refusal) × (now (out .exit) ≡ f64s.sqrtCall (now (x .entry)) .value) ⌝ }
 {
-    let answer = math_f64::sqrt_f64(*x);
+    let answer = math_f64::calls::sqrt_f64(*x);
     let value = answer.value;
     *out = value;
     answer.refusal
@@ -104,7 +106,7 @@ pub extern "C" fn oracle_sincos_turns_f64(
 ) -> u64
     ensures { λ r. ⌜ (r ≡ f64s.sincosTurnsCall (now (t .entry)) .refusal) × (now (cos .exit) ≡ f64s.sincosTurnsCall (now (t .entry)) .value .cos) × (now (sin .exit) ≡ f64s.sincosTurnsCall (now (t .entry)) .value .sin) ⌝ }
 {
-    let answer = math_f64::sincos_turns_f64(*t);
+    let answer = math_f64::calls::sincos_turns_f64(*t);
     let value = answer.value;
     let c = value.cos;
     let s = value.sin;
@@ -122,7 +124,7 @@ pub extern "C" fn oracle_box_muller_f64(
 ) -> u64
     ensures { λ r. ⌜ (r ≡ f64s.boxMullerCall (now (u1 .entry)) (now (u2 .entry)) .refusal) × (now (cos .exit) ≡ f64s.boxMullerCall (now (u1 .entry)) (now (u2 .entry)) .value .cos) × (now (sin .exit) ≡ f64s.boxMullerCall (now (u1 .entry)) (now (u2 .entry)) .value .sin) ⌝ }
 {
-    let answer = math_f64::box_muller_f64(*u1, *u2);
+    let answer = math_f64::calls::box_muller_f64(*u1, *u2);
     let value = answer.value;
     let c = value.cos;
     let s = value.sin;
@@ -136,12 +138,12 @@ pub extern "C" fn oracle_box_muller_f64(
 pub extern "C" fn oracle_unit_f64(x: u64) -> u64
     ensures { λ r. ⌜ r ≡ toBits binary64 (unit binary64 x) ⌝ }
 {
-    floats::to_bits_f64(units::u64_to_unit_f64(x))
+    patterns::to_bits_f64(units::u64_to_unit_f64(x))
 }
 
 #[no_mangle]
 pub extern "C" fn oracle_one_minus_unit_f64(x: u64) -> u64
     ensures { λ r. ⌜ r ≡ toBits binary64 (oneMinusUnit binary64 x) ⌝ }
 {
-    floats::to_bits_f64(units::one_minus_unit_f64(x))
+    patterns::to_bits_f64(units::one_minus_unit_f64(x))
 }

@@ -3,8 +3,8 @@ use mathlib.Core.Bool.{Bool}
 use mathlib.Core.List.{List, []}
 use Prim.Native.Nat.{ℕ}
 use lib.ListN.{getD}
-use Rattle.philox_x8.specs.declared.Philox4x32X8.{Philox4x32X8}
-use Rattle.philox_x8.specs.declared.Blocks.{Blocks}
+use Rattle.philox.specs.declared.x8.Philox4x32X8.{Philox4x32X8}
+use Rattle.philox.specs.declared.x8.Blocks.{Blocks}
 
 abbrev pub counted : List ℕ → ℕ → ℕ → Bool → List ℕ → Philox4x32X8
 counted key stream counter waiting pending = record { key = key; stream = stream; counter = counter; waiting = waiting; pending = pending }

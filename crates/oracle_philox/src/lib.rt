@@ -1,11 +1,13 @@
 // Philox4x32-10 and its fills for a caller in C: a static library that tests/oracle links beside the Rust. The first five arguments are the
 // generator's fields; each call leaves in them the generator after the call.
-use philox_x8::Philox4x32X8;
+use philox::x8::Philox4x32X8;
+use philox_fills::bytes;
+use philox_fills::typed;
 ghost use mathlib.Core.Path.{_≡_};
 ghost use Rattle.fills.specs.Fill.{Filled};
 ghost use Rattle.fills.specs.FillBytes.{FilledBytes};
 ghost use Rattle.fills.specs.Kinds.{u64s, u32s, f32s, f64s, normalF32s, normalF64s};
-ghost use Rattle.philox_x8.specs.Machine.{drawn, fresh, sought, grouped, engine};
+ghost use Rattle.philox.specs.x8.Machine.{drawn, fresh, sought, grouped, engine};
 ghost use Rattle.oracle_philox.specs.States.{counted, blocksOf};
 
 #[no_mangle]
@@ -152,7 +154,7 @@ pub extern "C" fn oracle_philox_fill_u64(
         waiting: *waiting,
         pending: p,
     };
-    let f = philox_fills::fill_u64(g, out);
+    let f = typed::fill_u64(g, out);
     let rng = f.rng;
     let k = rng.key;
     let p = rng.pending;
@@ -184,7 +186,7 @@ pub extern "C" fn oracle_philox_fill_u32(
         waiting: *waiting,
         pending: p,
     };
-    let f = philox_fills::fill_u32(g, out);
+    let f = typed::fill_u32(g, out);
     let rng = f.rng;
     let k = rng.key;
     let p = rng.pending;
@@ -216,7 +218,7 @@ pub extern "C" fn oracle_philox_fill_f32(
         waiting: *waiting,
         pending: p,
     };
-    let f = philox_fills::fill_f32(g, out);
+    let f = typed::fill_f32(g, out);
     let rng = f.rng;
     let k = rng.key;
     let p = rng.pending;
@@ -248,7 +250,7 @@ pub extern "C" fn oracle_philox_fill_f64(
         waiting: *waiting,
         pending: p,
     };
-    let f = philox_fills::fill_f64(g, out);
+    let f = typed::fill_f64(g, out);
     let rng = f.rng;
     let k = rng.key;
     let p = rng.pending;
@@ -280,7 +282,7 @@ pub extern "C" fn oracle_philox_fill_normal_f32(
         waiting: *waiting,
         pending: p,
     };
-    let f = philox_fills::fill_normal_f32(g, out);
+    let f = typed::fill_normal_f32(g, out);
     let rng = f.rng;
     let k = rng.key;
     let p = rng.pending;
@@ -312,7 +314,7 @@ pub extern "C" fn oracle_philox_fill_normal_f64(
         waiting: *waiting,
         pending: p,
     };
-    let f = philox_fills::fill_normal_f64(g, out);
+    let f = typed::fill_normal_f64(g, out);
     let rng = f.rng;
     let k = rng.key;
     let p = rng.pending;
@@ -347,7 +349,7 @@ pub extern "C" fn oracle_philox_fill_bytes(
         waiting: *waiting,
         pending: p,
     };
-    let f = philox_fill_bytes::fill_bytes(g, kind, out);
+    let f = bytes::fill_bytes(g, kind, out);
     let rng = f.rng;
     let k = rng.key;
     let p = rng.pending;

@@ -1,12 +1,14 @@
 // The eight xoshiro256++ lanes and their fills for a caller in C: a static library that tests/oracle links beside the Rust. `s` is the
 // generator's four rows; each call leaves in it the generator after the call.
-use xoshiro_x8::Xoshiro256ppX8;
+use xoshiro::x8::Xoshiro256ppX8;
+use xoshiro_fills::bytes;
+use xoshiro_fills::typed;
 ghost use mathlib.Core.Path.{_≡_};
 ghost use Rattle.fills.specs.Fill.{Filled};
 ghost use Rattle.fills.specs.FillBytes.{FilledBytes};
 ghost use Rattle.fills.specs.Kinds.{u64s, u32s, f32s, f64s, normalF32s, normalF64s};
-ghost use Rattle.xoshiro_x8.specs.Calls.{drawn, placed, movedBlocks, engine};
-ghost use Rattle.xoshiro_x8.specs.Lanes.{ofRows};
+ghost use Rattle.xoshiro.specs.x8.Calls.{drawn, placed, movedBlocks, engine};
+ghost use Rattle.xoshiro.specs.x8.Lanes.{ofRows};
 
 // Answers the jumps.
 #[no_mangle]
@@ -80,7 +82,7 @@ pub extern "C" fn oracle_xoshiro_fill_u64(s: &mut [[u64; 8]; 4], out: &mut [u64]
     let s2 = s[2];
     let s3 = s[3];
     let g = Xoshiro256ppX8 { s0, s1, s2, s3 };
-    let f = xoshiro_fills::fill_u64(g, out);
+    let f = typed::fill_u64(g, out);
     let rng = f.rng;
     let s0 = rng.s0;
     let s1 = rng.s1;
@@ -100,7 +102,7 @@ pub extern "C" fn oracle_xoshiro_fill_u32(s: &mut [[u64; 8]; 4], out: &mut [u32]
     let s2 = s[2];
     let s3 = s[3];
     let g = Xoshiro256ppX8 { s0, s1, s2, s3 };
-    let f = xoshiro_fills::fill_u32(g, out);
+    let f = typed::fill_u32(g, out);
     let rng = f.rng;
     let s0 = rng.s0;
     let s1 = rng.s1;
@@ -120,7 +122,7 @@ pub extern "C" fn oracle_xoshiro_fill_f32(s: &mut [[u64; 8]; 4], out: &mut [f32]
     let s2 = s[2];
     let s3 = s[3];
     let g = Xoshiro256ppX8 { s0, s1, s2, s3 };
-    let f = xoshiro_fills::fill_f32(g, out);
+    let f = typed::fill_f32(g, out);
     let rng = f.rng;
     let s0 = rng.s0;
     let s1 = rng.s1;
@@ -140,7 +142,7 @@ pub extern "C" fn oracle_xoshiro_fill_f64(s: &mut [[u64; 8]; 4], out: &mut [f64]
     let s2 = s[2];
     let s3 = s[3];
     let g = Xoshiro256ppX8 { s0, s1, s2, s3 };
-    let f = xoshiro_fills::fill_f64(g, out);
+    let f = typed::fill_f64(g, out);
     let rng = f.rng;
     let s0 = rng.s0;
     let s1 = rng.s1;
@@ -160,7 +162,7 @@ pub extern "C" fn oracle_xoshiro_fill_normal_f32(s: &mut [[u64; 8]; 4], out: &mu
     let s2 = s[2];
     let s3 = s[3];
     let g = Xoshiro256ppX8 { s0, s1, s2, s3 };
-    let f = xoshiro_fills::fill_normal_f32(g, out);
+    let f = typed::fill_normal_f32(g, out);
     let rng = f.rng;
     let s0 = rng.s0;
     let s1 = rng.s1;
@@ -180,7 +182,7 @@ pub extern "C" fn oracle_xoshiro_fill_normal_f64(s: &mut [[u64; 8]; 4], out: &mu
     let s2 = s[2];
     let s3 = s[3];
     let g = Xoshiro256ppX8 { s0, s1, s2, s3 };
-    let f = xoshiro_fills::fill_normal_f64(g, out);
+    let f = typed::fill_normal_f64(g, out);
     let rng = f.rng;
     let s0 = rng.s0;
     let s1 = rng.s1;
@@ -206,7 +208,7 @@ pub extern "C" fn oracle_xoshiro_fill_bytes(
     let s2 = s[2];
     let s3 = s[3];
     let g = Xoshiro256ppX8 { s0, s1, s2, s3 };
-    let f = xoshiro_fill_bytes::fill_bytes(g, kind, out);
+    let f = bytes::fill_bytes(g, kind, out);
     let rng = f.rng;
     let s0 = rng.s0;
     let s1 = rng.s1;

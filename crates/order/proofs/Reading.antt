@@ -5,9 +5,9 @@ use mathlib.Core.Path.{_≡_, refl, sym, ap, _∙_}
 use Prim.Native.Nat.{ℕ, _+_, _-_, _^_, _≤_, _<_}
 use lib.Dec.{leb}
 use borrow.Author.Tests.{eq-eqb, ne-eqb, lt-ltb, le-ltb}
-use Rattle.decimal.specs.Number.{numberAt}
-use Rattle.decimal.specs.declared.Number.{Number}
-use Rattle.decimal.specs.declared.Number.the-variants.{Value, Wrong}
+use Rattle.text.specs.decimal.Number.{numberAt}
+use Rattle.text.specs.declared.decimal.Number.{Number}
+use Rattle.text.specs.declared.decimal.Number.the-variants.{Value, Wrong}
 use Rattle.fills.specs.Fill.{drawsFor}
 use Rattle.fills.specs.Kinds.{kindAt}
 use Rattle.order.specs.Words.{startsWith, raw}

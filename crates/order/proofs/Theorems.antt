@@ -6,10 +6,10 @@ use Prim.Native.Nat.{ℕ, _+_, _-_, _^_, _≤_, _<_}
 use native.Mathlib.Omega.{arith}
 use lib.Dec.{eqb, leb, ltb}
 use borrow.Author.Tests.{leb-true, eqb-true, eqb-false}
-use Rattle.decimal.proofs.Theorems.{number-sound}
-use Rattle.decimal.specs.Number.{numberAt}
-use Rattle.decimal.specs.declared.Number.{Number}
-use Rattle.decimal.specs.declared.Number.the-variants.{Value, Wrong}
+use Rattle.text.proofs.decimal.Theorems.{number-sound}
+use Rattle.text.specs.decimal.Number.{numberAt}
+use Rattle.text.specs.declared.decimal.Number.{Number}
+use Rattle.text.specs.declared.decimal.Number.the-variants.{Value, Wrong}
 use Rattle.order.proofs.Reading.{past, within}
 use Rattle.order.specs.Claims.{Accepted, Orders}
 use Rattle.order.specs.Order.{engineOf, kindOf, numbered, lastBlock, lastDraw, refused, originOf, withDraws, withValues, orderOf}

@@ -3,9 +3,9 @@ use mathlib.Core.Bool.{Bool, true, false, _&&_, cond}
 use mathlib.Core.List.{List, [], _∷_}
 use Prim.Native.Nat.{ℕ}
 use lib.Dec.{eqb}
-use Rattle.decimal.specs.Number.{numberAt}
-use Rattle.decimal.specs.declared.Number.{Number}
-use Rattle.decimal.specs.declared.Number.the-variants.{Value, Wrong}
+use Rattle.text.specs.decimal.Number.{numberAt}
+use Rattle.text.specs.declared.decimal.Number.{Number}
+use Rattle.text.specs.declared.decimal.Number.the-variants.{Value, Wrong}
 
 -- whether a text starts with a word
 unfoldable pub startsWith : List ℕ → List ℕ → Bool

@@ -1,5 +1,8 @@
 // The arguments of an order, ENGINE SEED BLOCK FIRST KIND COUNT [raw], as the numbers that they stand for. Each argument is in an array of
 // zeros that is longer than it, so that a 0 ends it.
+use fills::kinds;
+use text::decimal;
+use text::decimal::Number;
 ghost use mathlib.Core.Path.{_≡_};
 ghost use mathlib.Core.Bool.{cond, not};
 ghost use Prim.Native.Nat.{_+_};
@@ -7,7 +10,6 @@ ghost use lib.Dec.{leb};
 ghost use Rattle.order.specs.Words.{startsWith};
 ghost use Rattle.order.specs.Order.{engineOf, numbered, kindOf, lastBlock, lastDraw, originOf, withDraws, withValues, orderOf};
 ghost use Rattle.order.specs.Order.{refused as refusedOrder};
-use decimal::Number;
 
 // An order, with the draws that its values take. `refusal` is 0, or names what is wrong: argument 1 to 7; 8, more draws than there are from
 // `first` on; 9, too few arguments or too many. Then the rest is 0.

@@ -1,1 +1,3 @@
-pub mod Philox
+pub mod block
+pub mod x8
+pub mod draws

@@ -1,2 +1,3 @@
-pub mod Fields
-pub mod Saved
+pub mod fields
+pub mod xoshiro256pp
+pub mod philox4x32

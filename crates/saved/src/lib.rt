@@ -1,1 +1,4 @@
-// No code: how a saved form is laid out, what saving promises, and the laws of both.
+// Saved forms of a generator.
+pub mod fields;
+pub mod philox4x32;
+pub mod xoshiro256pp;

@@ -1,10 +1,11 @@
 // Writes what the engines hand out. The file `stdout` beside src/ holds what it must write: the published vectors, the scope
 // document's refusal numbers, and the answers of the Rust (tests/oracle says how they were made).
 use libc::STDOUT_FILENO;
-use philox_x8::Philox4x32X8;
-use splitmix64::SplitMix64;
-use xoshiro::Xoshiro256pp;
-use xoshiro_x8::Xoshiro256ppX8;
+use philox::block;
+use philox::x8::Philox4x32X8;
+use xoshiro::scalar::Xoshiro256pp;
+use xoshiro::splitmix64::SplitMix64;
+use xoshiro::x8::Xoshiro256ppX8;
 
 fn title(text: &[u8]) {
     io::write_all(STDOUT_FILENO, text);
@@ -75,7 +76,7 @@ fn published_xoshiro() {
 }
 
 fn published_philox(counter: [u32; 4], key: [u32; 2]) {
-    let w = philox::philox4x32_10(counter, key);
+    let w = block::philox4x32_10(counter, key);
     hex_half(w[0]);
     hex_half(w[1]);
     hex_half(w[2]);

@@ -1,3 +1,4 @@
-pub mod Xoshiro256pp
-pub mod Calls
-pub mod Claims
+pub mod splitmix64
+pub mod scalar
+pub mod rows
+pub mod x8

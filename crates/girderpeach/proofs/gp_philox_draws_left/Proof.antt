@@ -2,7 +2,7 @@
 use Rattle.girderpeach.proofs.Draws.{few-left}
 use Rattle.girderpeach.proofs.Engines.{philox-sound}
 use Rattle.girderpeach.proofs.Host.{few-form, answer-refused, answer-done}
-use Rattle.philox_x8.specs.Machine.{leftOf}
+use Rattle.philox.specs.x8.Machine.{leftOf}
 use borrow.Author.Needs.{needs}
 use mathlib.Core.Path.{ap, _∙_}
 use mir.Facts.{toZ-ofZ}

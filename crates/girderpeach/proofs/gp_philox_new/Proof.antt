@@ -1,6 +1,6 @@
 -- `girderpeach::gp_philox_new` meets its contract.
 use Rattle.girderpeach.proofs.Host.{few-length, called-saved}
-use Rattle.philox_saved.specs.Form.{formOf}
+use Rattle.saved.specs.philox4x32.Form.{formOf}
 use borrow.Author.Needs.{needs}
 use mathlib.Core.Path.{ap, _∙_}
 use mir.Facts.{toZ-ofZ}

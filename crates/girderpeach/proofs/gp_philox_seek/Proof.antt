@@ -1,8 +1,8 @@
 -- `girderpeach::gp_philox_seek` meets its contract.
 use Rattle.girderpeach.proofs.Engines.{philox-sound}
 use Rattle.girderpeach.proofs.Host.{few-form, called-refused, called-done, saved-form}
-use Rattle.philox_saved.specs.Form.{formOf}
-use Rattle.philox_x8.specs.Machine.{sought}
+use Rattle.saved.specs.philox4x32.Form.{formOf}
+use Rattle.philox.specs.x8.Machine.{sought}
 use borrow.Author.Needs.{needs}
 use mathlib.Core.Path.{refl, sym, ap, _∙_}
 use mir.Facts.{toZ-ofZ}

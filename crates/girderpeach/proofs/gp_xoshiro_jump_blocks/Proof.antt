@@ -2,8 +2,8 @@
 use Rattle.base.proofs.Refused.{unless-some, unless-none}
 use Rattle.girderpeach.proofs.Engines.{xoshiro-sound}
 use Rattle.girderpeach.proofs.Host.{few-form, called-refused, called-done, saved-form}
-use Rattle.xoshiro_saved.specs.Form.{formOf}
-use Rattle.xoshiro_x8.specs.Calls.{movedBlocks}
+use Rattle.saved.specs.xoshiro256pp.Form.{formOf}
+use Rattle.xoshiro.specs.x8.Calls.{movedBlocks}
 use borrow.Author.Needs.{needs}
 use mathlib.Core.Path.{refl, sym, ap, _∙_}
 use mir.Facts.{toZ-ofZ}

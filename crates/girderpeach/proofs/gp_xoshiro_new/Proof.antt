@@ -1,7 +1,7 @@
 -- `girderpeach::gp_xoshiro_new` meets its contract.
 use Rattle.base.proofs.Refused.{unless-some, unless-none}
 use Rattle.girderpeach.proofs.Host.{called-refused, called-done, length-no, length-yes, saved-form}
-use Rattle.xoshiro_saved.specs.Form.{formOf}
+use Rattle.saved.specs.xoshiro256pp.Form.{formOf}
 use borrow.Author.Needs.{needs}
 use denote.Ref.{now}
 use mathlib.Core.Path.{refl, sym, ap, _∙_}

@@ -1,7 +1,7 @@
 -- `oracle_lib::oracle_box_muller_f32` meets its contract.
 use borrow.Author.Needs.{needs}
 use mathlib.Core.Path.{ap}
-use Rattle.math_f32.specs.declared.CosSinLanes.{CosSinLanes}
+use Rattle.math_f32.specs.declared.calls.CosSinLanes.{CosSinLanes}
 use Rattle.oracle_lib.proofs.oracle_box_muller_f32.Statement.{statement}
 use Rattle.oracle_lib.proofs.oracle_box_muller_f32.Tie as tie
 

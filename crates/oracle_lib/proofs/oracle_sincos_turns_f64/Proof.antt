@@ -1,7 +1,7 @@
 -- `oracle_lib::oracle_sincos_turns_f64` meets its contract.
 use borrow.Author.Needs.{needs}
 use mathlib.Core.Path.{ap}
-use Rattle.math_f64.specs.declared.CosSinLanes.{CosSinLanes}
+use Rattle.math_f64.specs.declared.calls.CosSinLanes.{CosSinLanes}
 use Rattle.oracle_lib.proofs.oracle_sincos_turns_f64.Statement.{statement}
 use Rattle.oracle_lib.proofs.oracle_sincos_turns_f64.Tie as tie
 

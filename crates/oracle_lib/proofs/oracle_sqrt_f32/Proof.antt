@@ -1,7 +1,7 @@
 -- `oracle_lib::oracle_sqrt_f32` meets its contract.
 use borrow.Author.Needs.{needs}
 use mathlib.Core.Path.{ap}
-use Rattle.math_f32.specs.declared.Lanes.{Lanes}
+use Rattle.math_f32.specs.declared.calls.Lanes.{Lanes}
 use Rattle.oracle_lib.proofs.oracle_sqrt_f32.Statement.{statement}
 use Rattle.oracle_lib.proofs.oracle_sqrt_f32.Tie as tie
 

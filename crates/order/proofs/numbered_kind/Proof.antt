@@ -2,8 +2,8 @@
 use mathlib.Core.List.{List}
 use mathlib.Core.Path.{_≡_, refl, sym, ap, _∙_}
 use Prim.Native.Nat.{ℕ}
-use Rattle.decimal.specs.Number.{numberAt}
-use Rattle.decimal.specs.declared.Number.{Number}
+use Rattle.text.specs.decimal.Number.{numberAt}
+use Rattle.text.specs.declared.decimal.Number.{Number}
 use Rattle.order.specs.Order.{numbered}
 use borrow.Author.Needs.{needs}
 use Rattle.order.proofs.numbered_kind.Statement.{statement}

@@ -1,0 +1,2 @@
+pub mod Delivery
+pub mod Claims

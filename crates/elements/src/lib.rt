@@ -1,0 +1,6 @@
+// The words of draws into elements and their bytes, a module a kind: kinds 1 to 4.
+pub mod f32s;
+pub mod f64s;
+pub mod groups;
+pub mod u32s;
+pub mod u64s;

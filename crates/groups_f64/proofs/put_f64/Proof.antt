@@ -1,7 +1,0 @@
--- `groups_f64::put_f64` meets its contract.
-use borrow.Author.Needs.{needs}
-use Rattle.groups_f64.proofs.put_f64.Statement.{statement}
-use Rattle.groups_f64.proofs.put_f64.Tie as tie
-
-pub put-f64-spec : {M : Type 1} → statement M
-put-f64-spec = tie.close (tie.spec (λ c κs. search needs) (λ c κs. search needs) (λ c κs. search needs) (λ c. search needs) (λ c. search needs) (λ c. search needs) (λ c. search needs))

@@ -1,7 +1,0 @@
--- `groups_u32::put_u32` meets its contract.
-use borrow.Author.Needs.{needs}
-use Rattle.groups_u32.proofs.put_u32.Statement.{statement}
-use Rattle.groups_u32.proofs.put_u32.Tie as tie
-
-pub put-u32-spec : {M : Type 1} → statement M
-put-u32-spec = tie.close (tie.spec (λ c κs. search needs) (λ c κs. search needs) (λ c κs. search needs) (λ c. search needs) (λ c. search needs) (λ c. search needs) (λ c. search needs))

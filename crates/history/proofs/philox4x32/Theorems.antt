@@ -1,0 +1,102 @@
+-- The claims of specs/History.antt. Assumes nothing.
+use mathlib.Core.List.{List, _∷_}
+use mathlib.Core.Path.{_≡_, refl, sym, ap, ap₂, _∙_}
+use Prim.Native.Nat.{ℕ, zero, suc, _+_}
+use native.Mathlib.Omega.{arith}
+use lib.ListN.{length}
+use Rattle.base.specs.Iterate.{iterate}
+use Rattle.base.proofs.Lists.{along}
+use Rattle.fills.specs.Fill.{drawsFor}
+use Rattle.fills.proofs.Handed.{right-fill, right-bytes, draws-made, draws-reported}
+use Rattle.philox.specs.x8.Machine.{wordsOf, nextOf, drawn, grouped, sought}
+use Rattle.philox.specs.declared.x8.Blocks.{Blocks}
+use Rattle.philox.specs.declared.x8.Draw.{Draw}
+use Rattle.philox.specs.declared.x8.Philox4x32X8.{Philox4x32X8}
+use Rattle.history.specs.philox4x32.Calls.{Call, draw, group, seek, fill, bytes, Step, rngOf, rngAfter, Run}
+use Rattle.history.specs.philox4x32.History.{Tally, start, oneDraw, tallyAfter, tally, reportedAfter, reported, wordsAt, Right, AllRight, DrawsAddUp, DrawsCount}
+use Rattle.history.proofs.philox4x32.Tallied.{tallied, tallied-start, tallied-words, tallied-draw, tallied-draws, tallied-group, tallied-seek}
+
+pub draws-count : DrawsCount
+unfolding iterate oneDraw
+draws-count zero t = (omega arith, refl, refl)
+draws-count (suc n) t =
+    let w = draws-count n t in
+    (omega (arith, w .0), w .1, w .2)
+
+-- ---- one call, on the generator s that the tally t stands for: the generator after it, what it handed out, and what it reported
+module _ (s₀ : Philox4x32X8) (t : Tally) {s : Philox4x32X8} (e : s ≡ tallied s₀ t) where
+  drawn-words : (m : ℕ) → wordsOf (iterate nextOf m s) ≡ wordsAt s₀ (iterate oneDraw m t)
+  drawn-words m =
+      ap (λ (x : Philox4x32X8). wordsOf (iterate nextOf m x)) e
+      ∙ ap wordsOf (tallied-draws m s₀ t)
+      ∙ tallied-words s₀ (iterate oneDraw m t)
+
+  drawn-on : (m n : ℕ) → m ≡ n → iterate nextOf m s ≡ tallied s₀ (iterate oneDraw n t)
+  drawn-on m n q = ap₂ (λ (k : ℕ) (x : Philox4x32X8). iterate nextOf k x) q e ∙ tallied-draws n s₀ t
+
+  stands : (c : Call) → Step s c → rngOf c ≡ tallied s₀ (tallyAfter t c)
+  unfolding drawn
+  stands (draw r) h = ap (λ (x : Draw). x .rng) h ∙ ap nextOf e ∙ tallied-draw s₀ t
+  stands (group r) h = ap (λ (x : Blocks). x .rng) h ∙ ap (λ (x : Philox4x32X8). grouped x .rng) e ∙ tallied-group s₀ t
+  stands (seek n u64 r) h = h ∙ ap (λ (x : Philox4x32X8). sought x n) e ∙ tallied-seek s₀ t n u64
+  stands (fill K before after r) h = h .state ∙ drawn-on (r .draws) _ (h .count)
+  stands (bytes k before after r) h = h .state ∙ drawn-on (r .draws) _ (draws-made h)
+
+  right : (c : Call) → Step s c → Right s₀ t s c
+  unfolding drawn grouped sought tallied iterate
+  right (draw r) h = ap (λ (x : Draw). x .words) h ∙ drawn-words 0
+  right (group r) h =
+      let q = h ∙ ap grouped e in
+      record {
+        word0 = ap (λ (x : Blocks). x .w0) q;
+        word1 = ap (λ (x : Blocks). x .w1) q;
+        word2 = ap (λ (x : Blocks). x .w2) q;
+        word3 = ap (λ (x : Blocks). x .w3) q;
+      }
+  right (seek n u64 r) h = ap (λ (x : Philox4x32X8). x .counter) h
+  right (fill K before after r) h = right-fill _ drawn-words h
+  right (bytes k before after r) h = right-bytes h _ drawn-words
+
+  -- what the call reported is what is counted, where m were reported before it
+  counts : {m : ℕ} (c : Call) → Step s c → m ≡ t .d → reportedAfter m c ≡ tallyAfter t c .d
+  unfolding oneDraw
+  counts (draw r) h q = omega (arith, q)
+  counts (group r) h q = q
+  counts (seek n u64 r) h q = refl
+  counts (fill K before after r) h q = omega (arith, q, h .count, draws-count (drawsFor K (length before)) t .0)
+  counts {m} (bytes k before after r) h q = counted _ _ (draws-reported h ∙ draws-made h)
+    where
+      counted : (l n : ℕ) → l ≡ n → m + l ≡ iterate oneDraw n t .d
+      counted l n e′ = omega (arith, q, e′, draws-count n t .0)
+
+-- ---- a whole list
+record Whole (s₀ : Philox4x32X8) (calls : List Call) : Type 0 where
+  rng : rngAfter s₀ calls ≡ tallied s₀ (tally calls)
+  draws : reported calls ≡ tally calls .d
+  outputs : AllRight s₀ calls
+
+whole : (s₀ : Philox4x32X8) → s₀ ≡ tallied s₀ start → {calls : List Call} → Run s₀ calls → Whole s₀ calls
+whole s₀ e r = along r (Whole s₀) (record { rng = e; draws = refl; outputs = tt }) more
+  where
+    more : (c : Call) (calls : List Call) → Whole s₀ calls → Step (rngAfter s₀ calls) c → Whole s₀ (c ∷ calls)
+    more c calls w h =
+        let t : Tally = tally calls in
+        record {
+          rng = stands s₀ t (w .rng) c h;
+          draws = counts s₀ t (w .rng) c h (w .draws);
+          outputs = (right s₀ t (w .rng) c h, w .outputs);
+        }
+
+pub draws-add-up : DrawsAddUp
+unfolding tallied
+draws-add-up seed stream s₀ calls e r =
+    let w = whole s₀ (e ∙ tallied-start seed stream ∙ ap (λ (s : Philox4x32X8). tallied s start) (sym e)) r in
+    record {
+      key = ap (λ (s : Philox4x32X8). s .key) (w .rng);
+      stream = ap (λ (s : Philox4x32X8). s .stream) (w .rng);
+      draws = w .draws;
+      counter = ap (λ (s : Philox4x32X8). s .counter) (w .rng);
+      waits = ap (λ (s : Philox4x32X8). s .waiting) (w .rng);
+      pending = ap (λ (s : Philox4x32X8). s .pending) (w .rng);
+      outputs = w .outputs;
+    }

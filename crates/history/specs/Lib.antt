@@ -1,0 +1,3 @@
+pub mod xoshiro256pp
+pub mod philox4x32
+pub mod host

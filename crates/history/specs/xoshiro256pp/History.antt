@@ -1,0 +1,78 @@
+-- What holds after every list of calls on the generator that `from_seed` or `from_seed_block` returned: demand 3, eight lanes.
+use mathlib.Core.List.{List}
+use mathlib.Core.Path.{_≡_}
+use Prim.Native.Nat.{ℕ, _+_, _<_}
+use lib.ListN.{length}
+use Rattle.base.specs.Lists.{total, Each}
+use Rattle.base.specs.Refused.{unless}
+use Rattle.base.specs.Table.{table}
+use Rattle.fills.specs.Fill.{drawsFor}
+use Rattle.fills.specs.FillBytes.{refusalOf, bytesDraws}
+use Rattle.fills.specs.Handed.{RightFill, RightBytes}
+use Rattle.xoshiro.specs.scalar.Xoshiro256pp.{State, output, steps, jumps, seeded}
+use Rattle.xoshiro.specs.x8.Lanes.{laneOf}
+use Rattle.xoshiro.specs.x8.Calls.{blockJumps, placed}
+use Rattle.xoshiro.specs.declared.x8.Placed.{Placed}
+use Rattle.xoshiro.specs.declared.x8.Xoshiro256ppX8.{Xoshiro256ppX8}
+use Rattle.history.specs.xoshiro256pp.Calls.{Call, draw, fill, bytes, move, rngAfter, Run}
+
+-- ---- what the calls reported: an accepted fill the draws that it returned, a single draw 1, a block move the jumps that it returned
+abbrev pub drawsReported : Call → ℕ
+drawsReported (draw r) = 1
+drawsReported (fill K before after r) = r .draws
+drawsReported (bytes k before after r) = unless (r .refusal) (r .draws) 0
+drawsReported (move n r) = 0
+
+abbrev pub jumpsReported : Call → ℕ
+jumpsReported (draw r) = 0
+jumpsReported (fill K before after r) = 0
+jumpsReported (bytes k before after r) = 0
+jumpsReported (move n r) = r .jumps
+
+-- ---- D and J, whole numbers, never reduced: the table's draws for an accepted fill and 1 for a single draw; 8 n modulo 2 ^ 64 for each
+-- block move, after the constructor's 8 b modulo 2 ^ 64
+abbrev pub drawsCounted : Call → ℕ
+drawsCounted (draw r) = 1
+drawsCounted (fill K before after r) = drawsFor K (length before)
+drawsCounted (bytes k before after r) = unless (refusalOf k (length before)) (bytesDraws k (length before)) 0
+drawsCounted (move n r) = 0
+
+abbrev pub jumpsCounted : Call → ℕ
+jumpsCounted (draw r) = 0
+jumpsCounted (fill K before after r) = 0
+jumpsCounted (bytes k before after r) = 0
+jumpsCounted (move n r) = blockJumps n
+
+abbrev pub D : List Call → ℕ
+D calls = total drawsCounted calls
+
+abbrev pub J : ℕ → List Call → ℕ
+J b calls = blockJumps b + total jumpsCounted calls
+
+-- ---- what the calls handed out
+-- where D is d and J is j, a draw hands out, as word i, what a step returns from the seed's state s after j + i jumps and then d steps
+unfoldable pub wordsAt : State → ℕ → ℕ → List ℕ
+wordsAt s d j = table 8 (λ i. output (steps d (jumps (j + i) s)))
+
+-- what a call on the generator g handed out is right, where D and J before it are d and j; draw m of a fill has m more in its D
+abbrev pub Right : State → ℕ → ℕ → Xoshiro256ppX8 → Call → Type 0
+Right s d j g (draw r) = r .words ≡ wordsAt s d j
+Right s d j g (fill K before after r) = RightFill (λ m. wordsAt s (d + m) j) K before after (r .draws)
+Right s d j g (bytes k before after r) = RightBytes (λ m. wordsAt s (d + m) j) k before after g (r .refusal) (r .draws) (r .rng)
+Right s d j g (move n r) = r .jumps ≡ blockJumps n
+
+abbrev pub AllRight : ℕ → ℕ → Xoshiro256ppX8 → List Call → Type 0
+AllRight seed b g₀ = Each (λ calls c. Right (seeded seed) (D calls) (J b calls) (rngAfter g₀ calls) c)
+
+-- ---- the claim. A constructor at seed and block b handed back p, and the calls were made on its generator
+pub record History (seed b : ℕ) (p : Placed) (calls : List Call) : Type 0 where
+  -- the reported totals are D and J
+  pub draws : total drawsReported calls ≡ D calls
+  pub jumps-total : p .jumps + total jumpsReported calls ≡ J b calls
+  -- lane i stands at the seed's state after J + i jumps and then D steps
+  pub lanes : (i : ℕ) → i < 8 → laneOf (rngAfter (p .rng) calls) i ≡ steps (D calls) (jumps (J b calls + i) (seeded seed))
+  -- every call handed out what it should
+  pub outputs : AllRight seed b (p .rng) calls
+
+abbrev pub DrawsAddUp : Type 1
+DrawsAddUp = (seed b : ℕ) (p : Placed) (calls : List Call) → p ≡ placed seed b → Run (p .rng) calls → History seed b p calls

@@ -1,0 +1,23 @@
+-- `math_f32::calls::ln_f32` meets its contract.
+use borrow.Author.Needs.{needs}
+use lib.Ieee.{Float, ofBits}
+use mathlib.Core.List.{List}
+use mathlib.Core.Path.{sym, ap, _∙_}
+use Rattle.math_f32.specs.calls.Calls.{lnCall}
+use Rattle.math_f32.specs.declared.calls.Lanes.{Lanes}
+use Rattle.math_f32.proofs.calls.ln_f32.Statement.{statement}
+use Rattle.math_f32.proofs.calls.ln_f32.Tie as tie
+
+accepted : List Float → Lanes
+accepted v = record { refusal = 0; value = v }
+
+returns : tie.Need-returns
+unfolding lnCall accepted
+returns c = simp (sym (c .before .before .all-positive-normal .ensures) ∙ c .before .if1 .taken) (ap accepted (c .lanes .ensures))
+
+returns-2 : tie.Need-returns-2
+unfolding lnCall ofBits
+returns-2 c = simp (sym (c .before .all-positive-normal .ensures) ∙ c .if1 .left)
+
+pub ln-f32-spec : {M : Type 1} → statement M
+ln-f32-spec = tie.close (tie.spec (λ c κs. search needs) (λ c κs. search needs) returns returns-2)

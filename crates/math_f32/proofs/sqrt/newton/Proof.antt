@@ -1,0 +1,13 @@
+-- `math_f32::sqrt::newton` meets its contract.
+use lib.Ieee.{ofBits, round}
+use mathlib.Core.Path.{refl}
+use Rattle.math.specs.Sqrt.{newtonStep}
+use Rattle.math_f32.proofs.sqrt.newton.Statement.{statement}
+use Rattle.math_f32.proofs.sqrt.newton.Tie as tie
+
+returns : tie.Need-returns
+unfolding newtonStep ofBits round
+returns c = refl
+
+pub newton-spec : {M : Type 1} → statement M
+newton-spec = tie.close (tie.spec returns)

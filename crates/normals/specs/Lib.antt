@@ -1,0 +1,1 @@
+pub mod normal_f64s

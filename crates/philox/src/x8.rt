@@ -1,0 +1,145 @@
+// Philox4x32-10, eight blocks at a time (Philox4x32X8 of the Rust's philox.rs).
+use crate::block;
+ghost use mathlib.Core.Path.{_≡_};
+ghost use Rattle.philox.specs.x8.Machine.{joinOf, fresh, sought, grouped, drawn, leftOf};
+
+// Eight words from their halves.
+fn joined(lo: [u32; 8], hi: [u32; 8]) -> [u64; 8]
+    ensures { λ r. ⌜ r ≡ joinOf lo hi ⌝ }
+{
+    let mut out = [0u64; 8];
+    for i in 0..8 {
+        out[i] = words::join(lo[i], hi[i]);
+    }
+    out
+}
+
+// A key, a stream and a block counter; and eight words that wait for the next draw, or zeros where none wait. (The one byte stands last, so that
+// a copy moves the words as words.)
+pub struct Philox4x32X8 {
+    pub key: [u32; 2],
+    pub stream: u64,
+    pub counter: u64,
+    pub pending: [u64; 8],
+    pub waiting: bool,
+}
+
+// Eight words, and the generator after them.
+pub struct Draw {
+    pub words: [u64; 8],
+    pub rng: Philox4x32X8,
+}
+
+// The four words of eight blocks, word k of block i at place i of row k, and the generator after them.
+pub struct Blocks {
+    pub w0: [u32; 8],
+    pub w1: [u32; 8],
+    pub w2: [u32; 8],
+    pub w3: [u32; 8],
+    pub rng: Philox4x32X8,
+}
+
+impl Philox4x32X8 {
+    // Stream 0 of key `seed`, counter 0.
+    pub fn from_seed(seed: u64) -> Self
+        ensures { λ r. ⌜ r ≡ fresh seed 0 ⌝ }
+    {
+        Philox4x32X8::new(seed, 0)
+    }
+
+    // Stream `stream` of key `seed`, counter 0.
+    pub fn new(seed: u64, stream: u64) -> Self
+        ensures { λ r. ⌜ r ≡ fresh seed stream ⌝ }
+    {
+        let lo = words::low(seed);
+        let hi = words::high(seed);
+        Self {
+            key: [lo, hi],
+            stream,
+            counter: 0,
+            waiting: false,
+            pending: [0; 8],
+        }
+    }
+
+    // Block `block` is next, and no words wait.
+    pub fn seek(self, block: u64) -> Self
+        ensures { λ r. ⌜ r ≡ sought self block ⌝ }
+    {
+        let key = self.key;
+        let waiting = false;
+        let pending = [0u64; 8];
+        Self {
+            key,
+            stream: self.stream,
+            counter: block,
+            waiting,
+            pending,
+        }
+    }
+
+    // The eight blocks at the counter. Words that wait go on waiting.
+    pub fn blocks(self) -> Blocks
+        ensures { λ r. ⌜ r ≡ grouped self ⌝ }
+    {
+        let key = self.key;
+        let group = block::eight_blocks(key, self.stream, self.counter);
+        let w0 = group.w0;
+        let w1 = group.w1;
+        let w2 = group.w2;
+        let w3 = group.w3;
+        let counter = std::num::wrapping_add_u64(self.counter, 8);
+        let pending = self.pending;
+        let rng = Philox4x32X8 {
+            key,
+            stream: self.stream,
+            counter,
+            waiting: self.waiting,
+            pending,
+        };
+        Blocks {
+            w0,
+            w1,
+            w2,
+            w3,
+            rng,
+        }
+    }
+
+    // One draw: the words that wait; or the lower words of the next eight blocks, whose upper words then wait.
+    pub fn next_u64x8(self) -> Draw
+        ensures { λ r. ⌜ r ≡ drawn self ⌝ }
+    {
+        let waiting = self.waiting;
+        if waiting {
+            let words = self.pending;
+            let rng = self.seek(self.counter);
+            return Draw { words, rng };
+        }
+        let key = self.key;
+        let group = block::eight_blocks(key, self.stream, self.counter);
+        let w0 = group.w0;
+        let w1 = group.w1;
+        let w2 = group.w2;
+        let w3 = group.w3;
+        let words = joined(w0, w1);
+        let pending = joined(w2, w3);
+        let rng = Philox4x32X8 {
+            key,
+            stream: self.stream,
+            counter: std::num::wrapping_add_u64(self.counter, 8),
+            waiting: true,
+            pending,
+        };
+        Draw { words, rng }
+    }
+
+    // The draws that the whole groups before counter 2^64 still hold.
+    pub fn draws_left(self) -> u64
+        ensures { λ r. ⌜ r ≡ leftOf self ⌝ }
+    {
+        // 2^64 - counter is rest + 1, which may not fit a u64.
+        let rest = u64::MAX - self.counter;
+        2 * (rest / 8 + (rest % 8 + 1) / 8)
+    }
+}

@@ -1,0 +1,37 @@
+-- `philox_fills::bytes::fill_normal_f64` meets its contract.
+use Prim.Native.Nat.{_-_}
+use Rattle.base.specs.Bytes.{flat}
+use Rattle.fills.proofs.Bytes.{bytes-sound}
+use Rattle.fills.proofs.Draws.{Turning, turns-none, two-draws, turns-end}
+use Rattle.fills.proofs.Sounds.{normal-f64s-sound}
+use Rattle.fills.specs.Buffer.{bytesKind}
+use Rattle.fills.specs.FillBytes.{bytesOf}
+use Rattle.fills.specs.Kinds.{normalsOf, normalF64s}
+use Rattle.philox.proofs.x8.Theorems.{eight-words}
+use Rattle.philox.specs.x8.Machine.{drawn, engine}
+use Rattle.philox.specs.declared.x8.Draw.{Draw}
+use borrow.Author.Needs.{needs}
+use lib.Ieee.{binary64}
+use mathlib.Core.Path.{refl, ap}
+use native.Mathlib.Omega.{arith}
+use Rattle.philox_fills.proofs.bytes.fill_normal_f64.Statement.{statement}
+use Rattle.philox_fills.proofs.bytes.fill_normal_f64.Tie as tie
+
+abbrev Inv-loop : tie.InvT-loop
+Inv-loop out₀ m rng₀ j₀ out rng j = Turning engine (bytesKind normalF64s) rng₀ out₀ m out j rng
+
+abbrev μ-loop : tie.MeasureT-loop
+μ-loop out₀ m rng₀ j₀ out rng j = m - j
+
+loop-again : tie.Need-loop-again Inv-loop μ-loop
+unfolding drawn
+loop-again c =
+    let p = c .before .before .before in
+    let e = p .before .before .before in
+    let d = e .before .before .before in
+    two-draws (λ a b. flat (bytesOf normalF64s) (normalsOf binary64 a b)) (λ X. refl) refl (d .before .before .loop .inv) (d .before .loop-test .taken)
+    (ap (λ (x : Draw). x .words) (d .draw .ensures)) (ap (λ (x : Draw). x .rng) (d .draw .ensures))
+    (ap (λ (x : Draw). x .words) (e .draw2 .ensures)) (ap (λ (x : Draw). x .rng) (e .draw2 .ensures)) (p .put-bytes .ensures)
+
+pub fill-normal-f64-spec : {M : Type 1} → statement M
+fill-normal-f64-spec = tie.close (tie.spec Inv-loop μ-loop (λ c κs. search needs) (λ c. turns-none eight-words (bytes-sound normalF64s normal-f64s-sound (omega arith)) (c .groups-in .ensures)) (λ c κs. search needs) (λ c κs. search needs) (λ c. search needs) (λ c κs. search needs) (λ c. search needs) (λ c. search needs) loop-again (λ c. search needs) (λ c. search needs) (λ c. turns-end (c .before .loop .inv) (c .loop-test .left) (search needs)))

@@ -1,0 +1,75 @@
+// Fills of words of the Philox4x32-10: kind 1, and the words that the fills of the other kinds are made of.
+use philox::draws;
+use philox::x8::Philox4x32X8;
+use slices::u64s;
+ghost use Prim.Native.Nat.{_*_, _≤_, min};
+ghost use lib.ListN.{length};
+ghost use Rattle.base.specs.Engine.{Drawn};
+ghost use Rattle.fills.specs.Fill.{Filled};
+ghost use Rattle.fills.specs.Kinds.{u64s};
+ghost use Rattle.philox.specs.x8.Machine.{engine};
+
+// The draws that a fill made, and the generator after them.
+pub struct Fill {
+    pub draws: u64,
+    pub rng: Philox4x32X8,
+}
+
+// Kind 1, draw by draw.
+fn fill_u64_plain(g: Philox4x32X8, out: &mut [u64]) -> Fill
+    ensures { λ r. ⌜ Filled engine u64s g (now (out .entry)) (now (out .exit)) (r .draws) (r .rng) ⌝ }
+{
+    let mut rng = g;
+    let mut draws: u64 = 0;
+    let mut at = 0;
+    while at < out.len() {
+        let d = draws::draw(rng);
+        let w = d.words;
+        u64s::put_u64(out, at, w);
+        rng = d.rng;
+        draws += 1;
+        at += 8;
+    }
+    Fill { draws, rng }
+}
+
+// Kind 1: the words. Many draws at once while two draws have room, and the rest draw by draw.
+pub fn fill_u64(g: Philox4x32X8, out: &mut [u64]) -> Fill
+    ensures { λ r. ⌜ Filled engine u64s g (now (out .entry)) (now (out .exit)) (r .draws) (r .rng) ⌝ }
+{
+    let mut rng = g;
+    let mut draws: u64 = 0;
+    let mut at = 0;
+    while 16 <= out.len() - at {
+        let d = draws::draw_many(rng, out, at);
+        rng = d.rng;
+        draws += d.draws as u64;
+        at += d.draws * 8;
+    }
+    if out.len() == at {
+        return Fill { draws, rng };
+    }
+    let rest = fill_u64_plain(rng, &mut out[at..]);
+    let last = rest.rng;
+    Fill {
+        draws: draws + rest.draws,
+        rng: last,
+    }
+}
+
+// The words of `m` draws, in the first places of `b`. The places after them stay.
+fn fill_first(g: Philox4x32X8, b: &mut [u64], m: usize) -> Fill
+    requires { ⌜ m * 8 ≤ length (now b) ⌝ }
+    ensures { λ r. ⌜ Drawn engine g m (now (b .entry)) (now (b .exit)) (r .draws) (r .rng) ⌝ }
+{
+    let n = m * 8;
+    fill_u64(g, &mut b[..n])
+}
+
+// The words of `m` draws, at most 16, in a buffer. The other kinds make their groups of it: drawing ahead is faster than turning each draw
+// into elements at once.
+pub fn fill_buffer(g: Philox4x32X8, b: &mut [u64; 128], m: usize) -> Fill
+    ensures { λ r. ⌜ Drawn engine g (min 16 m) (now (b .entry)) (now (b .exit)) (r .draws) (r .rng) ⌝ }
+{
+    fill_first(g, b, words::room(16, 0, m))
+}

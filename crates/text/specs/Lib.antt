@@ -1,0 +1,3 @@
+pub mod decimal
+pub mod hexfloat
+pub mod lines

@@ -1,0 +1,3 @@
+pub mod Xoshiro256pp
+pub mod Calls
+pub mod Claims
