@@ -7,7 +7,8 @@ ghost use Prim.Native.Nat.{_+_, _≤_, _<_};
 ghost use lib.Dec.{leb};
 ghost use lib.ListN.{length};
 ghost use Rattle.base.specs.Put.{Put, given};
-ghost use Rattle.text.specs.hexfloat.Text.{hexDigit, hexPadded, stripped, fraction, power, number, magnitude, minus, hexText, widened};
+ghost use Rattle.text.specs.hexfloat.Text.{hexDigit, hexPadded, stripped, fraction, power};
+ghost use Rattle.text.specs.hexfloat.Text.{number, magnitude, minus, hexText, widened};
 
 fn hex_digit(d: u64) -> u8
     requires { ⌜ d ≤ 15 ⌝ }

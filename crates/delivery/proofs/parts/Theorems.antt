@@ -15,7 +15,8 @@ use Rattle.fills.specs.FillBytes.{bytesWritten, bytesDraws}
 use Rattle.delivery.specs.source.Source.{nextOf, startOf, either}
 use Rattle.delivery.specs.declared.source.Source.{Source}
 use Rattle.delivery.specs.parts.Delivery.{widthOf, placesOf, NextPart}
-use Rattle.delivery.specs.parts.Claims.{OneFill, TwoFills, TwoOrders, ByElements, AsTheyAre, Call, Step, restOf, joinedBy, wholeOf, drawsOf, Joined, deliveryOf, Delivered}
+use Rattle.delivery.specs.parts.Claims.{OneFill, TwoFills, TwoOrders, ByElements, AsTheyAre, Call, Step}
+use Rattle.delivery.specs.parts.Claims.{restOf, joinedBy, wholeOf, drawsOf, Joined, deliveryOf, Delivered}
 use Rattle.delivery.specs.declared.parts.Delivery.{Delivery}
 use Rattle.delivery.proofs.parts.Joining.{none-drawn, none-written, length-written, whole-then, then-none}
 use Rattle.delivery.proofs.parts.Room.{fits}

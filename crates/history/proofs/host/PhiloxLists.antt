@@ -22,7 +22,8 @@ use Rattle.saved.proofs.philox4x32.Widths.{words-fresh, words-next, words-sough
 use Rattle.philox.specs.x8.Machine.{wordsOf, nextOf, sought}
 use Rattle.philox.specs.declared.x8.Philox4x32X8.{Philox4x32X8}
 use Rattle.history.specs.host.Answers.{ifAccepted}
-use Rattle.history.specs.host.Philox.{Call, fill, seek, Step, formIn, formAfter, Run, tallyAfter, tally, reportedAfter, Right, History, HostAddsUp}
+use Rattle.history.specs.host.Philox.{Call, fill, seek, Step, formIn, formAfter, Run}
+use Rattle.history.specs.host.Philox.{tallyAfter, tally, reportedAfter, Right, History, HostAddsUp}
 use Rattle.history.proofs.host.Answers.{saved, counted, right, leaves}
 
 -- a form keeps all of such a generator: its words fit, and none are left that don't wait. A draw's generator is one again

@@ -23,7 +23,8 @@ use Rattle.xoshiro.specs.x8.Lanes.{laneOf, ofRows}
 use Rattle.xoshiro.specs.declared.x8.Xoshiro256ppX8.{Xoshiro256ppX8}
 use Rattle.xoshiro.proofs.x8.Theorems.{lanes-start}
 use Rattle.history.specs.host.Answers.{ifAccepted}
-use Rattle.history.specs.host.Xoshiro.{Call, fill, move, Step, formIn, formAfter, Run, drawsReported, jumpsReported, drawsCounted, jumpsCounted, D, J, standing, Right, History, HostAddsUp}
+use Rattle.history.specs.host.Xoshiro.{Call, fill, move, Step, formIn, formAfter, Run, drawsReported, jumpsReported}
+use Rattle.history.specs.host.Xoshiro.{drawsCounted, jumpsCounted, D, J, standing, Right, History, HostAddsUp}
 use Rattle.history.proofs.host.Answers.{written, chosen, saved, stays, counted, right, leaves}
 
 -- a form reads no more of a generator than its lanes

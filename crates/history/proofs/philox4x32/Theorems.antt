@@ -13,8 +13,10 @@ use Rattle.philox.specs.declared.x8.Blocks.{Blocks}
 use Rattle.philox.specs.declared.x8.Draw.{Draw}
 use Rattle.philox.specs.declared.x8.Philox4x32X8.{Philox4x32X8}
 use Rattle.history.specs.philox4x32.Calls.{Call, draw, group, seek, fill, bytes, Step, rngOf, rngAfter, Run}
-use Rattle.history.specs.philox4x32.History.{Tally, start, oneDraw, tallyAfter, tally, reportedAfter, reported, wordsAt, Right, AllRight, DrawsAddUp, DrawsCount}
-use Rattle.history.proofs.philox4x32.Tallied.{tallied, tallied-start, tallied-words, tallied-draw, tallied-draws, tallied-group, tallied-seek}
+use Rattle.history.specs.philox4x32.History.{Tally, start, oneDraw, tallyAfter, tally, reportedAfter}
+use Rattle.history.specs.philox4x32.History.{reported, wordsAt, Right, AllRight, DrawsAddUp, DrawsCount}
+use Rattle.history.proofs.philox4x32.Tallied.{tallied, tallied-start, tallied-words, tallied-draw}
+use Rattle.history.proofs.philox4x32.Tallied.{tallied-draws, tallied-group, tallied-seek}
 
 pub draws-count : DrawsCount
 unfolding iterate oneDraw

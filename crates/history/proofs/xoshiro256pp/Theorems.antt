@@ -13,7 +13,8 @@ use Rattle.xoshiro.specs.declared.x8.Placed.{Placed}
 use Rattle.xoshiro.specs.declared.x8.Xoshiro256ppX8.{Xoshiro256ppX8}
 use Rattle.xoshiro.proofs.x8.Theorems.{lanes-start}
 use Rattle.history.specs.xoshiro256pp.Calls.{Call, draw, fill, bytes, move, Step, rngOf, rngAfter}
-use Rattle.history.specs.xoshiro256pp.History.{drawsReported, jumpsReported, drawsCounted, jumpsCounted, D, J, Right, History, DrawsAddUp}
+use Rattle.history.specs.xoshiro256pp.History.{drawsReported, jumpsReported, drawsCounted, jumpsCounted, D}
+use Rattle.history.specs.xoshiro256pp.History.{J, Right, History, DrawsAddUp}
 use Rattle.history.proofs.xoshiro256pp.Lanes.{At, at-same, at-draws, at-move, words-at}
 
 -- one call: it reports what is counted, what it handed out is right, and the lanes stand where they should

@@ -23,7 +23,8 @@ use Rattle.saved.proofs.fields.Tests.{and-both, each-passes}
 use Rattle.philox.specs.x8.Machine.{none8, sought}
 use Rattle.philox.specs.declared.x8.Philox4x32X8.{Philox4x32X8}
 use Rattle.saved.specs.philox4x32.Claims.{Words, settled}
-use Rattle.saved.specs.philox4x32.Form.{layout, waitingOf, fieldsOf, formOf, markIn, waitingIn, ofFields, isForm, refused, ofForm, loaded}
+use Rattle.saved.specs.philox4x32.Form.{layout, waitingOf, fieldsOf, formOf, markIn, waitingIn}
+use Rattle.saved.specs.philox4x32.Form.{ofFields, isForm, refused, ofForm, loaded}
 use Rattle.saved.specs.declared.philox4x32.Loaded.{Loaded}
 
 -- the words that are saved, where words wait or not

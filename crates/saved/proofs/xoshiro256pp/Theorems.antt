@@ -11,7 +11,8 @@ use Rattle.xoshiro.specs.declared.x8.LanesAnswer.{LanesAnswer}
 use Rattle.xoshiro.specs.declared.x8.Xoshiro256ppX8.{Xoshiro256ppX8}
 use Rattle.saved.specs.xoshiro256pp.Claims.{FormLength, Words, NoZeroLane, LoadSaved, SaveLoaded, Refusals, StaysAccepted}
 use Rattle.saved.specs.xoshiro256pp.Form.{formOf, loaded}
-use Rattle.saved.proofs.xoshiro256pp.Form.{form-length as long, lane-zero, read-saved, saved-read, load-short, load-valid, load-zero, load-accepted}
+use Rattle.saved.proofs.xoshiro256pp.Form.{form-length as long, lane-zero, read-saved, saved-read}
+use Rattle.saved.proofs.xoshiro256pp.Form.{load-short, load-valid, load-zero, load-accepted}
 use Rattle.saved.proofs.xoshiro256pp.Nonzero.{nonzero-next}
 use Rattle.saved.proofs.xoshiro256pp.Widths.{words-next}
 

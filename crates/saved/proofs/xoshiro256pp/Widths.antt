@@ -17,7 +17,8 @@ use Rattle.saved.proofs.fields.Bounds.{Small, table-below, field-below}
 use Rattle.saved.proofs.fields.Fields.{Bytes}
 use Rattle.xoshiro.specs.splitmix64.SplitMix64.{mixed, mixStep}
 use Rattle.words.specs.Words.{shl, rotl, xorShr}
-use Rattle.xoshiro.specs.scalar.Xoshiro256pp.{State, step, steps, plus, none, bitOf, times, summed, jumped, jumpPoly, jumps, allZero, kept, seedWords, seeded}
+use Rattle.xoshiro.specs.scalar.Xoshiro256pp.{State, step, steps, plus, none, bitOf, times, summed}
+use Rattle.xoshiro.specs.scalar.Xoshiro256pp.{jumped, jumpPoly, jumps, allZero, kept, seedWords, seeded}
 use Rattle.xoshiro.specs.rows.Lanes.{stepped}
 use Rattle.xoshiro.specs.x8.Calls.{nextOf, blockJumps, placed, movedBlocks}
 use Rattle.xoshiro.specs.x8.Lanes.{laneOf, ofStates}

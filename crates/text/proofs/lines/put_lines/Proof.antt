@@ -5,7 +5,8 @@ use native.Mathlib.Omega.{arith}
 use borrow.Author.Needs.{needs}
 use lib.ListN.{length}
 use Rattle.base.proofs.Put.{given-yes, given-no}
-use Rattle.text.proofs.lines.Laws.{Going, going-start, going-more, going-room, going-end, going-counts, refused-kind, refused-room, all-accepted}
+use Rattle.text.proofs.lines.Laws.{Going, going-start, going-more, going-room, going-end}
+use Rattle.text.proofs.lines.Laws.{going-counts, refused-kind, refused-room, all-accepted}
 use Rattle.text.proofs.lines.put_lines.Statement.{statement}
 use Rattle.text.proofs.lines.put_lines.Tie as tie
 
