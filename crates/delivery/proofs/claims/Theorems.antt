@@ -1,4 +1,4 @@
--- The claims of specs/Claims.antt.
+-- The claims of specs/claims/Claims.antt.
 use mathlib.Core.List.{[], _++_}
 use mathlib.Core.Path.{_≡_, sym, ap, _∙_}
 use Prim.Native.Nat.{ℕ, _+_, _*_}

@@ -1,4 +1,4 @@
--- The claims of specs/Claims.antt. Assumes nothing.
+-- The claims of specs/source/Claims.antt. Assumes nothing.
 use mathlib.Core.Path.{refl}
 use Rattle.delivery.specs.source.Claims.{XoshiroDraws, PhiloxDraws}
 use Rattle.delivery.proofs.source.Engines.{drawn-1, drawn-2}

@@ -1,5 +1,5 @@
 -- What is claimed of the work of the program deliver: it reads an order (`order::read`), calls `next_part` of `parts` until nothing is left, and
--- writes each part as it is, or as the lines that `text::lines::put_lines` makes of it. Each claim is proved in proofs/Theorems.antt.
+-- writes each part as it is, or as the lines that `text::lines::put_lines` makes of it. Each claim is proved in proofs/claims/Theorems.antt.
 use mathlib.Core.List.{List, _++_}
 use mathlib.Core.Path.{_≡_}
 use Prim.Native.Nat.{ℕ, _+_, _*_, _%_, _≤_}

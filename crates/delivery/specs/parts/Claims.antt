@@ -1,4 +1,4 @@
--- What is claimed of fills in parts. Each claim is proved in proofs/Theorems.antt.
+-- What is claimed of fills in parts. Each claim is proved in proofs/parts/Theorems.antt.
 use mathlib.Core.List.{List, [], _∷_, _++_}
 use mathlib.Core.Path.{_≡_}
 use Prim.Native.Nat.{ℕ, _+_, _*_, _%_}
@@ -49,7 +49,7 @@ pub record Call : Type 0 where
   pub after : List ℕ
   pub part : Part
 
--- what next_part promises of the call s on the delivery d: its `ensures`, word for word (proofs/Bridge.antt)
+-- what next_part promises of the call s on the delivery d: its `ensures`, word for word (proofs/parts/Bridge.antt)
 abbrev pub Step : Delivery → Call → Type 0
 Step d s = NextPart d (s .before) (s .after) (s .part .bytes) (s .part .rest)
 

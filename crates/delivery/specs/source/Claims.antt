@@ -1,4 +1,4 @@
--- What is claimed of a source: its draws hand out its engine's words. Each claim is proved in proofs/Theorems.antt.
+-- What is claimed of a source: its draws hand out its engine's words. Each claim is proved in proofs/source/Theorems.antt.
 use mathlib.Core.Path.{_≡_}
 use Prim.Native.Nat.{ℕ}
 use Rattle.base.specs.Iterate.{iterate}

@@ -1,4 +1,4 @@
--- What holds of the unit floats of every word. Proved in proofs/Theorems.antt under the same names.
+-- What holds of the unit floats of every word. Proved in proofs/units/Theorems.antt under the same names.
 use Prim.Native.Nat.{ℕ, _-_, _^_, _<_}
 use lib.Ieee.{Format}
 use Rattle.floats.specs.units.Unit.{Exactly, wide, digits, places, unit, oneMinusUnit}

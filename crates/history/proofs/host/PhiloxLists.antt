@@ -1,4 +1,4 @@
--- The lists of a host's calls on the form of a Philox generator: the claim of specs/Philox.antt. A form is that of the generator that the tally
+-- The lists of a host's calls on the form of a Philox generator: the claim of specs/host/Philox.antt. A form is that of the generator that the tally
 -- stands for, which every call reads back. Assumes nothing.
 use mathlib.Core.List.{List, _∷_}
 use mathlib.Core.Path.{_≡_, refl, ap, _∙_}

@@ -1,4 +1,4 @@
--- The claims of specs/Xoshiro.antt and specs/Philox.antt. Assumes nothing.
+-- The claims of specs/host/Xoshiro.antt and specs/host/Philox.antt. Assumes nothing.
 use Rattle.history.specs.host.Philox as philox
 use Rattle.history.specs.host.Xoshiro as xoshiro
 use Rattle.history.proofs.host.PhiloxLists as philox-lists

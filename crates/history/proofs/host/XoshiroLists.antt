@@ -1,4 +1,4 @@
--- The lists of a host's calls on the form of an eight-lane generator: the claim of specs/Xoshiro.antt. A form is followed by a generator that
+-- The lists of a host's calls on the form of an eight-lane generator: the claim of specs/host/Xoshiro.antt. A form is followed by a generator that
 -- it is the form of, and that generator's lanes by the laws of the lists of calls on a generator. Assumes nothing.
 use mathlib.Core.List.{List, [], _∷_}
 use mathlib.Core.Path.{_≡_, refl, sym, ap, _∙_}

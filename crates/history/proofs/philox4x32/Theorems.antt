@@ -1,4 +1,4 @@
--- The claims of specs/History.antt. Assumes nothing.
+-- The claims of specs/philox4x32/History.antt. Assumes nothing.
 use mathlib.Core.List.{List, _∷_}
 use mathlib.Core.Path.{_≡_, refl, sym, ap, ap₂, _∙_}
 use Prim.Native.Nat.{ℕ, zero, suc, _+_}

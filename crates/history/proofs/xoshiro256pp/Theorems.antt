@@ -1,4 +1,4 @@
--- The claim of specs/History.antt. Assumes nothing.
+-- The claim of specs/xoshiro256pp/History.antt. Assumes nothing.
 use mathlib.Core.List.{List, [], _∷_}
 use mathlib.Core.Path.{_≡_, refl, sym, ap, _∙_}
 use Prim.Native.Nat.{ℕ, _+_}

@@ -22,7 +22,7 @@ pub data Call : Type 1 where
   fill : {A : Type 0} (K : Kind A) (before after : List A) (r : Fill) → Call
   bytes : (k : ℕ) (before after : List ℕ) (r : ByteFill) → Call
 
--- what the function promises of the call on the generator s: its `ensures`, word for word (proofs/Bridge.antt)
+-- what the function promises of the call on the generator s: its `ensures`, word for word (proofs/philox4x32/Bridge.antt)
 abbrev pub Step : Philox4x32X8 → Call → Type 0
 Step s (draw r) = r ≡ drawn s
 Step s (group r) = r ≡ grouped s

@@ -21,7 +21,7 @@ pub data Call : Type 1 where
   bytes : (k : ℕ) (before after : List ℕ) (r : ByteFill) → Call
   move : (n : ℕ) (r : Placed) → Call
 
--- what the function promises of the call on the generator g: its `ensures`, word for word (proofs/Bridge.antt)
+-- what the function promises of the call on the generator g: its `ensures`, word for word (proofs/xoshiro256pp/Bridge.antt)
 abbrev pub Step : Xoshiro256ppX8 → Call → Type 0
 Step g (draw r) = r ≡ drawn g
 Step g (fill K before after r) = Filled engine K g before after (r .draws) (r .rng)

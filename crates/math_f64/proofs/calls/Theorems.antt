@@ -1,4 +1,4 @@
--- The claim of specs/Claims.antt. Assumes nothing.
+-- The claim of specs/calls/Claims.antt. Assumes nothing.
 use mathlib.Core.Bool.{Bool, true, false, _&&_}
 use mathlib.Core.List.{List}
 use mathlib.Core.Path.{_≡_, refl}

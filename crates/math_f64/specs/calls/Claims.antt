@@ -1,4 +1,4 @@
--- A call is accepted exactly when no lane breaks its rule. Proved in proofs/Theorems.antt under the same name.
+-- A call is accepted exactly when no lane breaks its rule. Proved in proofs/calls/Theorems.antt under the same name.
 use mathlib.Core.Bool.{Bool}
 use mathlib.Core.List.{List}
 use mathlib.Core.Path.{_≡_}

@@ -1,4 +1,4 @@
--- What is claimed of Philox4x32X8: the plain machine, event by event. Each claim is proved in proofs/Theorems.antt.
+-- What is claimed of Philox4x32X8: the plain machine, event by event. Each claim is proved in proofs/x8/Theorems.antt.
 use mathlib.Core.Bool.{Bool, true, false}
 use mathlib.Core.Path.{_≡_}
 use Prim.Native.Nat.{ℕ, _+_, _*_, _%_, _^_, _<_}

@@ -1,4 +1,4 @@
--- The claims of specs/Claims.antt. Assumes nothing.
+-- The claims of specs/philox4x32/Claims.antt. Assumes nothing.
 use mathlib.Core.Path.{_≡_, refl, sym, ap, _∙_}
 use mathlib.Core.Bool.{Bool, true, false, cond, _&&_, _||_}
 use mathlib.Core.List.{List}

@@ -1,4 +1,4 @@
--- The claims of specs/Claims.antt, and that a form which is accepted holds its generator. Assumes nothing.
+-- The claims of specs/xoshiro256pp/Claims.antt, and that a form which is accepted holds its generator. Assumes nothing.
 use mathlib.Core.Path.{_≡_, sym, ap, _∙_}
 use mathlib.Core.List.{List}
 use Prim.Native.Nat.{ℕ}

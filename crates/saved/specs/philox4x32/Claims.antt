@@ -1,4 +1,4 @@
--- What is claimed of the saved form. Each claim is proved in proofs/Theorems.antt.
+-- What is claimed of the saved form. Each claim is proved in proofs/philox4x32/Theorems.antt.
 use mathlib.Core.Bool.{cond}
 use mathlib.Core.List.{List}
 use mathlib.Core.Path.{_≡_}

@@ -1,4 +1,4 @@
--- The claims of specs/Claims.antt. Assumes nothing.
+-- The claims of specs/decimal/Claims.antt. Assumes nothing.
 use Rattle.text.specs.decimal.Claims.{ReadWritten, NumberSound}
 use Rattle.text.proofs.decimal.Written as written
 use Rattle.text.proofs.decimal.Sound as sound

@@ -1,4 +1,4 @@
--- The claims of specs/Claims.antt. Assumes nothing.
+-- The claims of specs/hexfloat/Claims.antt. Assumes nothing.
 use mathlib.Core.Path.{_∙_}
 use lib.Ieee.{binary32, binary64, ofBits}
 use lib.Ieee.Bits.{ofBits-toBits, toBits-lt, ofBits-fits}

@@ -1,4 +1,4 @@
--- The claims of specs/Claims.antt. Assumes nothing.
+-- The claims of specs/lines/Claims.antt. Assumes nothing.
 use Rattle.text.specs.lines.Claims.{LinesAppend, LinesOfElements, AtMost25}
 use Rattle.text.proofs.lines.Laws as laws
 

@@ -1,4 +1,4 @@
--- What is claimed of the texts. Each claim is proved in proofs/Theorems.antt.
+-- What is claimed of the texts. Each claim is proved in proofs/hexfloat/Theorems.antt.
 use mathlib.Core.Path.{_≡_}
 use Prim.Native.Nat.{ℕ, _^_, _<_, _≤_}
 use lib.Ieee.{binary32, binary64, ofBits}

@@ -1,4 +1,4 @@
--- What is claimed of the lines. Each claim is proved in proofs/Theorems.antt.
+-- What is claimed of the lines. Each claim is proved in proofs/lines/Theorems.antt.
 use mathlib.Core.List.{List, _++_}
 use mathlib.Core.Path.{_≡_}
 use Prim.Native.Nat.{ℕ, _%_, _^_, _≤_, _<_}

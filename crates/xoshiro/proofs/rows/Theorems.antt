@@ -1,4 +1,4 @@
--- The claim of specs/Claims.antt. Assumes nothing.
+-- The claim of specs/rows/Claims.antt. Assumes nothing.
 use Rattle.base.specs.Quad.{column}
 use Rattle.base.proofs.Table.{getD-table}
 use Rattle.base.proofs.Quad.{column-rowsOf}

@@ -1,4 +1,4 @@
--- The claims of specs/Claims.antt. Assumes nothing.
+-- The claims of specs/scalar/Claims.antt. Assumes nothing.
 use Rattle.base.proofs.Iterate.{iterate-commute}
 use Rattle.xoshiro.specs.scalar.Claims.{StepLinear, Move, aStep, aJump, aLongJump, moved, Commute, RunsCommute}
 use Rattle.xoshiro.proofs.scalar.Linear.{Linear, step-plus, linear-step, jumped-linear, linear-jumped}

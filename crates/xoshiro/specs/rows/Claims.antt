@@ -1,4 +1,4 @@
--- What is claimed of a step of eight lanes. The claim is proved in proofs/Theorems.antt.
+-- What is claimed of a step of eight lanes. The claim is proved in proofs/rows/Theorems.antt.
 use mathlib.Core.List.{List}
 use mathlib.Core.Path.{_≡_}
 use Prim.Native.Nat.{ℕ, _<_}

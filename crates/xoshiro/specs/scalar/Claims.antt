@@ -1,4 +1,4 @@
--- What is claimed of the scalar stream. Each claim is proved in proofs/Theorems.antt, as commute : Commute.
+-- What is claimed of the scalar stream. Each claim is proved in proofs/scalar/Theorems.antt, as commute : Commute.
 use mathlib.Core.Path.{_≡_}
 use Prim.Native.Nat.{ℕ}
 use Rattle.base.specs.Iterate.{iterate}

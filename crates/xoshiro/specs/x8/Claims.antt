@@ -1,4 +1,4 @@
--- What is claimed of the eight lanes. Each claim is proved in proofs/Theorems.antt.
+-- What is claimed of the eight lanes. Each claim is proved in proofs/x8/Theorems.antt.
 use mathlib.Core.List.{List}
 use mathlib.Core.Path.{_≡_}
 use Prim.Native.Nat.{ℕ, _+_, _*_, _%_, _^_, _<_}
