@@ -1,11 +1,12 @@
 -- Lists made element by element from one list or from two: as tables, and one made from another. Assumes nothing.
 use mathlib.Core.List.{List, [], _∷_, _++_, map}
 use mathlib.Core.Path.{_≡_, refl, sym, ap, _∙_}
-use Prim.Native.Nat.{ℕ, zero, suc}
+use Prim.Native.Nat.{ℕ, zero, suc, _+_, _≤_, _<_}
 use native.Mathlib.Omega.{arith}
 use lib.ListN.{length, getD}
 use Rattle.base.specs.Table.{table}
 use Rattle.base.specs.Zip.{zipWith}
+use Rattle.base.proofs.Table.{placed, table-same}
 
 module _ {A B : Type 0} (g : A → B) (d : A) where
   whole : (xs : List A) → table (length xs) (λ i. g (getD xs i d)) ≡ map g xs
@@ -48,3 +49,12 @@ pub map-table : {A B : Type 0} (g : A → B) (n : ℕ) (a : ℕ → A) → map g
 unfolding table
 map-table g zero a = refl
 map-table {B = B} g (suc n) a = ap (λ (l : List B). g (a 0) ∷ l) (map-table g n (λ i. a (suc i)))
+
+-- the eight places from m on of two tables joined, told by tables of eight
+pub zip-part : {A B C : Type 0} (g : A → B → C) (d : C) (n m : ℕ) (a a′ : ℕ → A) (b b′ : ℕ → B) {z v : List C} → z ≡ zipWith g (table n a) (table n b)
+    → v ≡ table 8 (λ k. getD z (m + k) d) → m + 8 ≤ n → ((k : ℕ) → k < 8 → a (m + k) ≡ a′ k) → ((k : ℕ) → k < 8 → b (m + k) ≡ b′ k)
+    → v ≡ zipWith g (table 8 a′) (table 8 b′)
+zip-part g d n m a a′ b b′ ez ev h ea eb =
+    ev
+    ∙ table-same 8 _ _ (λ k l. placed n d _ (ez ∙ zip-tables g n a b) (m + k) (omega arith) ∙ (λ i. g (ea k l i) (eb k l i)))
+    ∙ sym (zip-tables g 8 a′ b′)

@@ -9,8 +9,7 @@ use lib.Ieee.{Float, binary32, nan}
 use Rattle.base.specs.Engine.{drawOf}
 use Rattle.base.specs.Table.{table}
 use Rattle.base.specs.Zip.{zipWith}
-use Rattle.base.proofs.Table.{getD-table, table-same}
-use Rattle.base.proofs.Zip.{zip-tables, map-table}
+use Rattle.base.proofs.Zip.{map-table, zip-part}
 use Rattle.fills.specs.Kinds.{lows, highs, normalF32s}
 use Rattle.math.specs.BoxMuller.{cosHalf, sinHalf}
 use Rattle.floats.specs.units.Unit.{unit, oneMinusUnit}
@@ -41,12 +40,9 @@ module _ (b : List ℕ) (g j : ℕ) (h : j < 8) {u1 u2 : List Float} (p : u1 ≡
   -- lanes j * 8 to j * 8 + 7 of a half are that half of the group
   eight : (half : Float → Float → Float) {z v : List Float} → z ≡ zipWith half u1 u2 → v ≡ table 8 (λ k. getD z (j * 8 + k) nan)
       → v ≡ zipWith half (map (oneMinusUnit binary32) (lows (drawOf left (1 * j + 0)))) (map (unit binary32) (highs (drawOf left (1 * j + 0))))
-  eight half {z} {v} r e =
-      let whole : z ≡ table 64 (λ k. half (first (getD b (8 * g + k) 0)) (second (getD b (8 * g + k) 0))) = r ∙ (λ i. zipWith half (p i) (q i)) ∙ zip-tables half 64 _ _ in
-      e
-      ∙ table-same 8 _ _ (λ k l. ap (λ (o : List Float). getD o (j * 8 + k) nan) whole ∙ getD-table 64 _ (j * 8 + k) nan (omega arith)
-      ∙ (λ i. half (lane first k i) (lane second k i)))
-      ∙ sym ((λ i. zipWith half (low i) (high i)) ∙ zip-tables half 8 _ _)
+  eight half r e =
+      zip-part half nan 64 (j * 8) _ _ _ _ (r ∙ (λ i. zipWith half (p i) (q i))) e (omega arith) (λ k l. lane first k) (λ k l. lane second k)
+      ∙ sym (λ i. zipWith half (low i) (high i))
 
   -- group j, from its lanes of the cosine halves z and the sine halves y
   pub eight-group : {z y v w : List Float} → z ≡ zipWith (cosHalf binary32) u1 u2 → y ≡ zipWith (sinHalf binary32) u1 u2 → v ≡ table 8 (λ k. getD z (j * 8 + k) nan)

@@ -13,8 +13,8 @@ use Rattle.base.specs.Table.{table}
 use Rattle.base.specs.Zip.{zipWith}
 use Rattle.base.proofs.Bytes.{length-leBytes, flat-map, flat-append, flat-length}
 use Rattle.base.proofs.Stored.{stored-two}
-use Rattle.base.proofs.Table.{Tabled, tabled-none, tabled-more, tabled-end, getD-table, table-same}
-use Rattle.base.proofs.Zip.{zip-tables, map-table}
+use Rattle.base.proofs.Table.{Tabled, tabled-none, tabled-more, tabled-end}
+use Rattle.base.proofs.Zip.{map-table, zip-part}
 use Rattle.fills.specs.FillBytes.{bytesOf}
 use Rattle.fills.specs.Kinds.{normalF64s}
 use Rattle.math.specs.BoxMuller.{cosHalf, sinHalf}
@@ -68,12 +68,11 @@ module _ (b : List ℕ) (g j : ℕ) (h : j < 4) {u1 u2 : List Float} (p : u1 ≡
   -- lanes j * 8 to j * 8 + 7 of a half are that half of the group
   eight : (half : Float → Float → Float) {z v : List Float} → z ≡ zipWith half u1 u2 → v ≡ table 8 (λ k. getD z (j * 8 + k) nan)
       → v ≡ zipWith half (map (oneMinusUnit binary64) (drawOf left (2 * j + 0))) (map (unit binary64) (drawOf left (2 * j + 1)))
-  eight half {z} {v} r e =
-      let whole : z ≡ table 32 (λ k. half (rows (oneMinusUnit binary64) b (16 * g) k) (rows (unit binary64) b (16 * g + 8) k)) = r ∙ (λ i. zipWith half (p i) (q i)) ∙ zip-tables half 32 _ _ in
-      e
-      ∙ table-same 8 _ _ (λ k l. ap (λ (o : List Float). getD o (j * 8 + k) nan) whole ∙ getD-table 32 _ (j * 8 + k) nan (omega arith)
-      ∙ (λ i. half (lane (oneMinusUnit binary64) (16 * g) ((2 * j + 0) * 8 + k) k (omega arith) i) (lane (unit binary64) (16 * g + 8) ((2 * j + 1) * 8 + k) k (omega arith) i)))
-      ∙ sym ((λ i. zipWith half (drawn (oneMinusUnit binary64) (2 * j + 0) i) (drawn (unit binary64) (2 * j + 1) i)) ∙ zip-tables half 8 _ _)
+  eight half r e =
+      zip-part half nan 32 (j * 8) _ _ _ _ (r ∙ (λ i. zipWith half (p i) (q i))) e (omega arith)
+      (λ k l. lane (oneMinusUnit binary64) (16 * g) ((2 * j + 0) * 8 + k) k (omega arith))
+      (λ k l. lane (unit binary64) (16 * g + 8) ((2 * j + 1) * 8 + k) k (omega arith))
+      ∙ sym (λ i. zipWith half (drawn (oneMinusUnit binary64) (2 * j + 0) i) (drawn (unit binary64) (2 * j + 1) i))
 
   -- group j, from its lanes of the cosine halves z and the sine halves y
   pub four-group : {z y v w : List Float} → z ≡ zipWith (cosHalf binary64) u1 u2 → y ≡ zipWith (sinHalf binary64) u1 u2 → v ≡ table 8 (λ k. getD z (j * 8 + k) nan)
