@@ -21,7 +21,7 @@ use Rattle.math.specs.BoxMuller.{cosHalf, sinHalf}
 use Rattle.fills.specs.Fill.{drawsFor, element}
 use Rattle.fills.specs.Kinds.{lows, highs, u32s, normalsOf, kindAt}
 use Rattle.fills.specs.FillBytes.{bytesOf, refusalOf, elements, bytesWritten, bytesDraws}
-use Rattle.fills.specs.Claims.{Row1, Row2, Row3, Row4, Row5, Row6, DrawsAndWidths, Refusals, BytesOfTheFill}
+use Rattle.fills.specs.Claims.{Row1, Row2, Row3, Row4, Row5, Row6, DrawsAndWidths, SixKinds, Refusals, BytesOfTheFill}
 use Rattle.fills.proofs.Sounds.{halves-long, length-zip, row}
 
 -- ---- elements of lists made element by element
@@ -150,6 +150,9 @@ draws-and-widths n =
     }
 
 -- ---- the refusals of a byte fill
+pub six-kinds : SixKinds
+six-kinds = refl
+
 pub refusals : Refusals
 unfolding refusalOf
 refusals k n =

@@ -76,7 +76,12 @@ pub record Columns (n : ℕ) : Type 0 where
 abbrev pub DrawsAndWidths : Type 0
 DrawsAndWidths = (n : ℕ) → Columns n
 
--- ---- the refusals of a byte fill: none exactly when the kind is a row of the table, counted from 1, and the length a multiple of its width; 4 comes before 5
+-- the kinds have the numbers 1 to 6
+abbrev pub SixKinds : Type 0
+SixKinds = length kinds ≡ 6
+
+-- ---- the refusals of a byte fill: none exactly when the kind is a row of the table, counted from 1, and the length a multiple of its width;
+-- 4 comes before 5
 pub record Judged (k n : ℕ) : Type 0 where
   pub accepted : refusalOf k n ≡ 0 → (1 ≤ k) × (k ≤ length kinds) × (n % kindAt k .kind .width ≡ 0)
   pub accepts : 1 ≤ k → k ≤ length kinds → n % kindAt k .kind .width ≡ 0 → refusalOf k n ≡ 0

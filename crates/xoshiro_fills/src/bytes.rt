@@ -204,7 +204,7 @@ fn fill_kind(g: Xoshiro256ppX8, kind: u64, out: &mut [u8]) -> Fill
     fill_u64(g, out)
 }
 
-// The bytes of the fill of a kind, by its number: elements little-endian, floats as their bits. Refused with 4 where `kind` is outside 1 to 6,
+// The bytes of the fill of a kind, by its number: elements little-endian, floats as their bits. Refused with 4 where `kind` is no kind's number,
 // with 5 where the length isn't a multiple of the kind's width; then nothing changes.
 pub fn fill_bytes(g: Xoshiro256ppX8, kind: u64, out: &mut [u8]) -> ByteFill
     ensures { λ r. ⌜ FilledBytes engine kind g (now (out .entry)) (now (out .exit)) (r .refusal) (r .draws) (r .rng) ⌝ }

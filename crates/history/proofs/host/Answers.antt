@@ -9,7 +9,7 @@ use Rattle.base.specs.Refused.{unless}
 use Rattle.base.specs.Iterate.{iterate}
 use Rattle.fills.specs.FillBytes.{refusalOf, bytesWritten, bytesDraws}
 use Rattle.girderpeach.specs.Host.{answerOf, firstOf, Called, Forms, fillRefusal, HostFill}
-use Rattle.history.specs.host.Answers.{ifAccepted, reported, RightFill}
+use Rattle.history.specs.host.Answers.{ifAccepted, answered, RightAnswer}
 
 -- ---- any call
 -- what the refusal picks, the answer picks; what is picked where nothing is refused may be told otherwise there
@@ -23,7 +23,7 @@ written (pos n) a b c e = e
 written (negsuc n) a b c e = refl
 
 -- what an answer reports
-reports : (r v : ℕ) → reported (answerOf r v) ≡ unless r v 0
+reports : (r v : ℕ) → answered (answerOf r v) ≡ unless r v 0
 reports zero v = refl
 reports (suc r) v = refl
 
@@ -37,8 +37,8 @@ module _ {r v : ℕ} {new form form′ : List ℕ} {answer : ℤ} (c : Called r 
   pub stays : (n : ℕ) → answer ≡ negsuc n → form′ ≡ form
   stays n e = saved (λ z. refl) ∙ ap (λ (x : ℤ). ifAccepted x new form) e
 
-  pub counted : reported answer ≡ ifAccepted answer v 0
-  counted = ap reported (c .answers) ∙ reports r v ∙ chosen (λ z. refl) 0
+  pub counted : answered answer ≡ ifAccepted answer v 0
+  counted = ap answered (c .answers) ∙ reports r v ∙ chosen (λ z. refl) 0
 
 -- ---- a fill, where an accepted form is that of the generator g
 first-none : (a b : ℕ) → firstOf a b ≡ 0 → a ≡ 0
@@ -51,7 +51,7 @@ module _ {G : Type 0} {H : Forms G} {form : List ℕ} {k : ℕ} {before : List �
   accepted z = read (first-none (H .refusal form) (refusalOf k (length before)) z)
 
   -- it is right, where W m are the words of draw m from g
-  pub right : {r : ℕ} → fillRefusal H form k before ≡ r → (W : ℕ → List ℕ) → ((m : ℕ) → wordsFrom (H .engine) g m ≡ W m) → RightFill r W k before after answer form form′
+  pub right : {r : ℕ} → fillRefusal H form k before ≡ r → (W : ℕ → List ℕ) → ((m : ℕ) → wordsFrom (H .engine) g m ≡ W m) → RightAnswer r W k before after answer form form′
   right e W same =
       record {
         answers = F .called .answers ∙ ap (λ (x : ℕ). answerOf x (bytesDraws k (length before))) e;

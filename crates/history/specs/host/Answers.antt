@@ -13,13 +13,13 @@ ifAccepted (pos n) a b = a
 ifAccepted (negsuc n) a b = b
 
 -- the draws that a fill's answer reports
-abbrev pub reported : ℤ → ℕ
-reported (pos n) = n
-reported (negsuc n) = 0
+abbrev pub answered : ℤ → ℕ
+answered (pos n) = n
+answered (negsuc n) = 0
 
 -- A fill of kind k whose draws hand out W 0, W 1, ..: it answers the table's draws or minus this refusal; accepted, the output holds the
 -- bytes of the typed fill; refused, the output and the form are as they were.
-pub record RightFill (refusal : ℕ) (W : ℕ → List ℕ) (k : ℕ) (before after : List ℕ) (answer : ℤ) (form form′ : List ℕ) : Type 0 where
+pub record RightAnswer (refusal : ℕ) (W : ℕ → List ℕ) (k : ℕ) (before after : List ℕ) (answer : ℤ) (form form′ : List ℕ) : Type 0 where
   pub answers : answer ≡ answerOf refusal (bytesDraws k (length before))
   pub writes : after ≡ ifAccepted answer (bytesWritten k W (length before)) before
   pub stays : (n : ℕ) → answer ≡ negsuc n → form′ ≡ form

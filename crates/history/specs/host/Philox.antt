@@ -15,7 +15,7 @@ use Rattle.history.specs.philox4x32.History.{Tally, counterOf, waitsOf, 
 use Rattle.saved.specs.philox4x32.Form.{formOf}
 use Rattle.philox.specs.x8.Machine.{upperAt, none8, fresh}
 use Rattle.philox.specs.declared.x8.Philox4x32X8.{Philox4x32X8}
-use Rattle.history.specs.host.Answers.{ifAccepted, reported, RightFill}
+use Rattle.history.specs.host.Answers.{ifAccepted, answered, RightAnswer}
 
 -- A call, with what it was handed besides the form and what it left: a fill (gp_philox_fill), with the output before and after it; a seek
 -- (gp_philox_seek), to a u64. `form` is the form that it left.
@@ -51,11 +51,11 @@ tally calls = folded tallyAfter start calls
 
 -- the draws that the fills since the last seek reported, after a call, where they were m before it
 abbrev pub reportedAfter : ℕ → Call → ℕ
-reportedAfter m (fill k before after answer form) = m + reported answer
+reportedAfter m (fill k before after answer form) = m + answered answer
 reportedAfter m (seek n u64 answer form) = 0
 
-abbrev pub drawsReported : List Call → ℕ
-drawsReported calls = folded reportedAfter 0 calls
+abbrev pub reported : List Call → ℕ
+reported calls = folded reportedAfter 0 calls
 
 -- ---- the claim
 -- the generator with the key and stream of g₀, and the counter and the waiting words that the tally gives
@@ -64,7 +64,7 @@ standing g₀ t = record { key = g₀ .key; stream = g₀ .stream; counter = cou
 
 -- a call on `form` is right, where the tally before it is t: only a kind or a length is ever refused. Draw m of a fill has m draws more
 abbrev pub Right : Philox4x32X8 → Tally → List ℕ → Call → Type 0
-Right g₀ t form (fill k before after answer form′) = RightFill (refusalOf k (length before)) (λ m. wordsAt g₀ (iterate oneDraw m t)) k before after answer form form′
+Right g₀ t form (fill k before after answer form′) = RightAnswer (refusalOf k (length before)) (λ m. wordsAt g₀ (iterate oneDraw m t)) k before after answer form form′
 Right g₀ t form (seek n u64 answer form′) = answer ≡ pos 0
 
 abbrev pub AllRight : Philox4x32X8 → List ℕ → List Call → Type 0
@@ -73,7 +73,7 @@ AllRight g₀ s₀ = Each (λ calls c. Right g₀ (tally calls) (formAfter s₀ 
 -- gp_philox_new wrote the form s₀ of the fresh generator g₀, and the calls were made on that form
 pub record History (g₀ : Philox4x32X8) (s₀ : List ℕ) (calls : List Call) : Type 0 where
   -- the reported draws are d
-  pub draws : drawsReported calls ≡ tally calls .d
+  pub draws : reported calls ≡ tally calls .d
   -- the form is that of the counter and the waiting words of the tally
   pub form : formAfter s₀ calls ≡ formOf (standing g₀ (tally calls))
   -- every call answered and wrote what it should

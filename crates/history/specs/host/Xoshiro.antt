@@ -16,7 +16,7 @@ use Rattle.saved.specs.xoshiro256pp.Form.{formOf, loaded}
 use Rattle.xoshiro.specs.x8.Calls.{blockJumps}
 use Rattle.xoshiro.specs.x8.Lanes.{ofStates}
 use Rattle.xoshiro.specs.declared.x8.Xoshiro256ppX8.{Xoshiro256ppX8}
-use Rattle.history.specs.host.Answers.{ifAccepted, reported, RightFill}
+use Rattle.history.specs.host.Answers.{ifAccepted, answered, RightAnswer}
 
 -- A call, with what it was handed besides the form and what it left: a fill (gp_xoshiro_fill), with the output before and after it; a move
 -- (gp_xoshiro_jump_blocks), with the number for its jumps before and after it. `form` is the form that it left.
@@ -43,7 +43,7 @@ Run = lists.Run Step formIn
 
 -- ---- what the calls reported, and D and J, whole numbers, never reduced: a refused call counts nothing
 abbrev pub drawsReported : Call → ℕ
-drawsReported (fill k before after answer form) = reported answer
+drawsReported (fill k before after answer form) = answered answer
 drawsReported (move n before after answer form) = 0
 
 abbrev pub jumpsReported : Call → ℕ
@@ -77,7 +77,7 @@ pub record RightMove (n before after : ℕ) (answer : ℤ) (form form′ : List 
 
 -- a call on `form` is right, where D and J before it are d and j; draw m of a fill has m more in its D
 abbrev pub Right : State → ℕ → ℕ → List ℕ → Call → Type 0
-Right s d j form (fill k before after answer form′) = RightFill (firstOf (loaded form .refusal) (refusalOf k (length before))) (λ m. wordsAt s (d + m) j) k before after answer form form′
+Right s d j form (fill k before after answer form′) = RightAnswer (firstOf (loaded form .refusal) (refusalOf k (length before))) (λ m. wordsAt s (d + m) j) k before after answer form form′
 Right s d j form (move n before after answer form′) = RightMove n before after answer form form′
 
 abbrev pub AllRight : ℕ → ℕ → List ℕ → List Call → Type 0
