@@ -64,9 +64,14 @@ run:
 
 lib: $(LIB)/libgirderpeach.a $(LIB)/libgirderpeach.so $(LIB)/girderpeach.pc
 
-$(LIB)/libgirderpeach.a: $(or $(ARCHIVE),$(COMPILED)/girderpeach.made)
+# A library is the proved archive, its fills under the names by which host/environment.c calls them, and that file's code in their place.
+SHIPPED = objcopy $(foreach engine,xoshiro philox,--redefine-sym gp_$(engine)_fill=girderpeach_$(engine)_fill) $(1) $(2) && \
+    $(CC) -std=c99 -O2 -fPIC -Iinclude -c host/environment.c -o $(LIB)/environment.o && ar rsD $(2) $(LIB)/environment.o && rm $(LIB)/environment.o
+
+$(LIB)/libgirderpeach.a: $(or $(ARCHIVE),$(COMPILED)/girderpeach.made) host/environment.c include/girderpeach.h
 	@mkdir -p $(LIB)
-	cp $(PLAIN) $@
+	@rm -f $@
+	$(call SHIPPED,$(PLAIN),$@)
 
 # Only the calls of the header are visible from outside.
 SHARED = echo '{ global: gp_*; local: *; };' | \
@@ -74,11 +79,12 @@ SHARED = echo '{ global: gp_*; local: *; };' | \
 
 $(LIB)/$(SONAME): $(LIB)/libgirderpeach.a
 	$(call SHARED,$<,$@)
-	@rm -rf $(LIB)/glibc-hwcaps
+	@rm -rf $(LIB)/glibc-hwcaps $(LEVELS:%=$(LIB)/%)
 	for level in $(HIGHER); do \
 	    [ -f $(COMPILED)/$$level/libgirderpeach.a ] || continue; \
-	    mkdir -p $(LIB)/glibc-hwcaps/$$level && \
-	    $(call SHARED,$(COMPILED)/$$level/libgirderpeach.a,$(LIB)/glibc-hwcaps/$$level/$(SONAME)) || exit 1; \
+	    mkdir -p $(LIB)/$$level $(LIB)/glibc-hwcaps/$$level && \
+	    $(call SHIPPED,$(COMPILED)/$$level/libgirderpeach.a,$(LIB)/$$level/libgirderpeach.a) && \
+	    $(call SHARED,$(LIB)/$$level/libgirderpeach.a,$(LIB)/glibc-hwcaps/$$level/$(SONAME)) || exit 1; \
 	done
 
 $(LIB)/libgirderpeach.so: $(LIB)/$(SONAME)
@@ -104,7 +110,7 @@ install: lib $(COMPILED)/deliver.made
 	for level in $(HIGHER); do \
 	    [ -f $(COMPILED)/$$level/libgirderpeach.a ] || continue; \
 	    install -D -m 755 $(LIB)/glibc-hwcaps/$$level/$(SONAME) $(DESTDIR)$(PREFIX)/lib/glibc-hwcaps/$$level/$(SONAME) && \
-	    install -D -m 644 $(COMPILED)/$$level/libgirderpeach.a $(DESTDIR)$(PREFIX)/lib/girderpeach/$$level/libgirderpeach.a || exit 1; \
+	    install -D -m 644 $(LIB)/$$level/libgirderpeach.a $(DESTDIR)$(PREFIX)/lib/girderpeach/$$level/libgirderpeach.a || exit 1; \
 	done
 	for level in x86-64 $(LEVELS); do \
 	    [ -f $(COMPILED)/$$level/deliver ] || continue; \
@@ -118,7 +124,7 @@ target/example/paths: examples/paths.c include/girderpeach.h $(LIB)/libgirderpea
 	$(CC) -O2 -Iinclude -o $@ $< $(LIB)/libgirderpeach.a
 
 # The typed fills are called through the libraries that tests/oracle links too.
-bench: $(foreach name,girderpeach oracle_xoshiro oracle_philox deliver,$(COMPILED)/$(name).made)
+bench: lib $(foreach name,oracle_xoshiro oracle_philox deliver,$(COMPILED)/$(name).made)
 	@RUST_SRC='$(RUST_SRC)' bench/run
 
 clean:

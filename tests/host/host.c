@@ -433,6 +433,32 @@ static void replay_file(const char *name) {
     fclose(file);
 }
 
+/* A null pointer is as good as any where its length is 0: an output of no bytes, and a form, which is then refused for its length. */
+static void nulls(void) {
+    struct call c = {"null with length 0", 0, 0, 0};
+    uint8_t form[ROOM], before[ROOM];
+    uint64_t jumps = 12345;
+    put_xoshiro(form);
+    memcpy(before, form, 256);
+    for (uint64_t kind = 0; kind <= 7; kind++) {
+        uint64_t accepted = kind >= 1 && kind <= 6 ? 0 : (uint64_t)-4;
+        expect(&c, "fill of no bytes", (uint64_t)gp_xoshiro_fill(form, 256, kind, NULL, 0), accepted);
+        expect(&c, "fill of a null form", (uint64_t)gp_xoshiro_fill(NULL, 0, kind, NULL, 0), (uint64_t)-1);
+        expect(&c, "fill of a null form, Philox", (uint64_t)gp_philox_fill(NULL, 0, kind, NULL, 0), (uint64_t)-1);
+    }
+    expect(&c, "form", (uint64_t)same(form, before, 256), 1);
+    put_philox(form, 1);
+    memcpy(before, form, 96);
+    for (uint64_t kind = 1; kind <= 6; kind++) expect(&c, "fill of no bytes, Philox", (uint64_t)gp_philox_fill(form, 96, kind, NULL, 0), 0);
+    expect(&c, "form, Philox", (uint64_t)same(form, before, 96), 1);
+    expect(&c, "gp_xoshiro_new", (uint64_t)gp_xoshiro_new(1, 2, NULL, 0, &jumps), (uint64_t)-1);
+    expect(&c, "gp_xoshiro_jump_blocks", (uint64_t)gp_xoshiro_jump_blocks(NULL, 0, 1, &jumps), (uint64_t)-1);
+    expect(&c, "jumps", jumps, 12345);
+    expect(&c, "gp_philox_new", (uint64_t)gp_philox_new(1, 2, NULL, 0), (uint64_t)-1);
+    expect(&c, "gp_philox_seek", (uint64_t)gp_philox_seek(NULL, 0, 1), (uint64_t)-1);
+    expect(&c, "gp_philox_draws_left", (uint64_t)gp_philox_draws_left(NULL, 0), (uint64_t)-1);
+}
+
 int main(int count, char **words) {
     if (count < 2) {
         fputs("host EXPECTED [tight]\n", stderr);
@@ -441,6 +467,7 @@ int main(int count, char **words) {
     tight = count > 2;
     setvbuf(stdout, NULL, _IONBF, 0); /* what failed is said even if a call does not end */
     names();
+    nulls();
     faults_together();
     every_form_length();
     damaged_philox(0);
