@@ -6,7 +6,8 @@
  * An answer is 0 or more, or minus the number of a refusal: the lowest that applies. A refused call changes no byte.
  *
  * What the library cannot know, and a caller has to see to:
- *   - `form` points to form_len bytes, `out` to out_len bytes and `jumps` to a uint64_t. No pointer is null, also where a length is 0.
+ *   - `form` points to form_len bytes and `out` to out_len bytes. Either may be null where its length is 0.
+ *   - `jumps` points to a uint64_t and is not null: every accepted call writes it, and the proved function takes a place for one number.
  *   - What one call is handed does not overlap, and no other thread uses it during the call. Calls on different forms may run at once.
  */
 #ifndef GIRDERPEACH_H
@@ -52,11 +53,11 @@ int64_t gp_philox_fill(uint8_t *form, size_t form_len, uint64_t kind, uint8_t *o
 
 /* Writes the form of block `block` of `seed`: lane i is the seed's state after (8 block mod 2^64) + i jumps. Writes
  * 8 block mod 2^64 to *jumps and answers 0. Refuses with 1, and then leaves *jumps as it was.
- * Takes time in proportion to the block: 8 block + 7 jumps, of about 0.3 microseconds each. */
+ * Makes (8 block mod 2^64) + 7 jumps, of about 0.3 microseconds each, so that a block far off takes long. */
 int64_t gp_xoshiro_new(uint64_t seed, uint64_t block, uint8_t *form, size_t form_len, uint64_t *jumps);
 
 /* Moves every lane on by 8 n mod 2^64 jumps, writes that number to *jumps and answers 0. Refuses with 1, 3, and then leaves *jumps as
- * it was. Takes time in proportion to n: 64 n jumps, eight lanes' worth. */
+ * it was. Makes 8 * (8 n mod 2^64) jumps, those of eight lanes one lane after another. */
 int64_t gp_xoshiro_jump_blocks(uint8_t *form, size_t form_len, uint64_t n, uint64_t *jumps);
 
 /* Writes the form of stream `stream` of key `seed`, at block 0 with no words waiting, and answers 0. Refuses with 1. */

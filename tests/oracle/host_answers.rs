@@ -51,7 +51,7 @@ impl Philox {
     }
 }
 
-/// Lengths about the ends of groups, and about 64 draws, which the library makes ahead.
+/// Lengths about the ends of groups, and about 512 and 1024 places: in every kind a multiple of 16 draws, as many as are made ahead at most.
 const LENGTHS: [u64; 20] = [0, 1, 7, 8, 9, 15, 16, 17, 24, 31, 33, 64, 500, 511, 513, 1023, 1024, 1025, 1040, 3001];
 
 fn every_length(mut fill: impl FnMut(u64, u64)) {

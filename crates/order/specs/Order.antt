@@ -1,4 +1,4 @@
--- An order, ENGINE SEED BLOCK FIRST KIND COUNT [raw]: what each argument may be, and which refusal names it.
+-- An order, ENGINE SEED BLOCK FIRST KIND COUNT [raw]: what each argument may be, and the number of what is wrong.
 use mathlib.Core.Bool.{Bool, true, false, cond, not}
 use mathlib.Core.List.{List}
 use Prim.Native.Nat.{ℕ, _+_, _-_, _^_}
@@ -61,7 +61,7 @@ unfoldable pub withValues : Order → (kind count : List ℕ) → Bool → Order
 withValues o kind count raw =
     cond (eqb (kindOf kind) 0) (refused 5) (number (2 ^ 64 - 1) count (refused 6) (λ c. withDraws o (kindOf kind) c raw))
 
--- the order of `given` arguments; the seventh, where there is one, is `raw`. Where several refusals apply: 9, then 1 to 4, then 7, then 5, 6 and 8
+-- the order of `given` arguments; the seventh, where there is one, is `raw`. Where several things are wrong: 9, then 1 to 4, then 7, then 5, 6 and 8
 unfoldable pub orderOf : (given : ℕ) (engine seed block first kind count last : List ℕ) → Order
 orderOf given engine seed block first kind count last =
     let o = originOf engine seed block first in

@@ -11,8 +11,8 @@ ghost use Rattle.order.specs.Words.{startsWith};
 ghost use Rattle.order.specs.Order.{engineOf, numbered, kindOf, lastBlock, lastDraw, originOf, withDraws, withValues, orderOf};
 ghost use Rattle.order.specs.Order.{refused as refusedOrder};
 
-// An order, with the draws that its values take. `refusal` is 0, or names what is wrong: argument 1 to 7; 8, more draws than there are from
-// `first` on; 9, too few arguments or too many. Then the rest is 0.
+// An order, with the draws that its values take. `refusal` is 0, or the number of what is wrong (none of the scope document's refusals): argument
+// 1 to 7; 8, more draws than there are from `first` on; 9, too few arguments or too many. Then the rest is 0.
 pub struct Order {
     pub refusal: u64,
     pub engine: u64,
