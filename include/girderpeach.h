@@ -5,6 +5,9 @@
  *
  * An answer is 0 or more, or minus the number of a refusal: the lowest that applies. A refused call changes no byte.
  *
+ * The calling program may have set its floating-point environment as it likes (how to round, what to flush to zero, which exceptions are not
+ * masked): the bytes are the same, and a call leaves it as it found it.
+ *
  * What the library cannot know, and a caller has to see to:
  *   - `form` points to form_len bytes and `out` to out_len bytes. Either may be null where its length is 0.
  *   - `jumps` points to a uint64_t and is not null: every accepted call writes it, and the proved function takes a place for one number.
