@@ -1,8 +1,8 @@
 # make test      proves every crate, tries the edits that must be refused, runs the programs and the other tests.
 #                The last line is 'N passed, 0 failed'.
 # make run       proves the program deliver and runs it on ORDER: ENGINE SEED BLOCK FIRST KIND COUNT [raw].
-# make lib       proves the library and puts libgirderpeach.a, libgirderpeach.so and girderpeach.pc in target/lib, and in
-#                target/lib/glibc-hwcaps the shared object for newer processors: the loader takes the newest that the machine runs.
+# make lib       proves the library and puts libgirderpeach.a, libgirderpeach.so and girderpeach.pc in target/lib, and for newer processors
+#                the archive in target/lib/LEVEL and the shared object in target/lib/glibc-hwcaps: the loader takes the newest that runs.
 # make install   puts these, the header and deliver below PREFIX.
 # make example   builds target/example/paths from examples/paths.c.
 # make bench     times the fills beside the Rust's and other generators, and prints the tables of docs/BENCHMARKS.md.
