@@ -22,7 +22,8 @@ pub none-drawn : {G : Type 0} {E : Engine G} {g : G} {l : List ℕ} {at m : ℕ}
 unfolding drawnWords stored table iterate
 none-drawn {G} {E} {g} {l} {at} e = rw e (record { writes = refl; count = refl; state = refl })
 
-pub drawn-as : {G : Type 0} {E : Engine G} {g g′ : G} {l l′ : List ℕ} {at m n draws : ℕ} → DrawnAt E g at m l l′ draws g′ → m ≡ n → DrawnAt E g at n l l′ draws g′
+pub drawn-as : {G : Type 0} {E : Engine G} {g g′ : G} {l l′ : List ℕ} {at m n draws : ℕ} → DrawnAt E g at m l l′ draws g′ → m ≡ n
+    → DrawnAt E g at n l l′ draws g′
 drawn-as D e = rw (← e) D
 
 -- ---- draws stored one after another
@@ -98,4 +99,5 @@ held-at-first {G} {E} {g} {g′} {m} {n} {draws} {draws′} {buf} {after} eights
         ∙ λ k. getD (wordsFrom E g (e k)) (e′ k) 0
 
     past : (k : ℕ) → getD after (m * 8 + k) 0 ≡ getD buf (m * 8 + k) 0
-    past k = ap (λ (l : List ℕ). getD l (m * 8 + k) 0) (D .writes) ∙ stored-after v buf 0 (m * 8 + k) 0 (omega (arith, length-table (m * 8) W))
+    past k =
+        ap (λ (l : List ℕ). getD l (m * 8 + k) 0) (D .writes) ∙ stored-after v buf 0 (m * 8 + k) 0 (omega (arith, length-table (m * 8) W))

@@ -51,7 +51,8 @@ map-table g zero a = refl
 map-table {B = B} g (suc n) a = ap (λ (l : List B). g (a 0) ∷ l) (map-table g n (λ i. a (suc i)))
 
 -- the eight places from m on of two tables joined, told by tables of eight
-pub zip-part : {A B C : Type 0} (g : A → B → C) (d : C) (n m : ℕ) (a a′ : ℕ → A) (b b′ : ℕ → B) {z v : List C} → z ≡ zipWith g (table n a) (table n b)
+pub zip-part : {A B C : Type 0} (g : A → B → C) (d : C) (n m : ℕ) (a a′ : ℕ → A) (b b′ : ℕ → B) {z v : List C}
+    → z ≡ zipWith g (table n a) (table n b)
     → v ≡ table 8 (λ k. getD z (m + k) d) → m + 8 ≤ n → ((k : ℕ) → k < 8 → a (m + k) ≡ a′ k) → ((k : ℕ) → k < 8 → b (m + k) ≡ b′ k)
     → v ≡ zipWith g (table 8 a′) (table 8 b′)
 zip-part g d n m a a′ b b′ ez ev h ea eb =

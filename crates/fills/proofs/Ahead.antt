@@ -120,7 +120,9 @@ module _ {G A : Type 0} {E : Engine G} {K : Kind A} {g : G} {old : List A} where
 
       -- a later draw, counted from the start
       later : (m : ℕ) → U m ≡ W (d * t + m)
-      later m = ap (λ (s : G). wordsFrom E s m) (F .state ∙ ap (λ (x : ℕ). iterate (E .next) x g) (F .count)) ∙ ap (E .words) (sym (iterate-then (E .next) (d * t) m g))
+      later m =
+          ap (λ (s : G). wordsFrom E s m) (F .state ∙ ap (λ (x : ℕ). iterate (E .next) x g) (F .count))
+          ∙ ap (E .words) (sym (iterate-then (E .next) (d * t) m g))
 
       shifted : (r : ℕ) → element K U r ≡ element K W (r + t * w)
       shifted r =
@@ -151,7 +153,8 @@ module _ {G A : Type 0} {E : Engine G} {K : Kind A} {g : G} {old : List A} where
 
   -- the same where the rest is lent as `&mut out[at..]`: the borrow checker's words for that part are `midOf` and `putMid`
   pub finish-part : {out after : List A} {at draws dr : ℕ} {rng rng′ : G} → Filling E K g old out at draws rng → at ≤ length old
-      → Filled E K rng (midOf at (length out - at) out) after dr rng′ → Filled E K g old (putMid at (length out - at) out after) (draws + dr) rng′
+      → Filled E K rng (midOf at (length out - at) out) after dr rng′
+      → Filled E K g old (putMid at (length out - at) out after) (draws + dr) rng′
   finish-part {out} {after} {at} {draws} {dr} {rng} {rng′} F h R =
       let k : ℕ = length out - at in
       let whole : midOf at k out ≡ drop at out = take-all k (drop at out) (le-of-eq (length-drop at out)) in

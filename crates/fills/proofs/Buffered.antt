@@ -66,7 +66,8 @@ drawn-filled {G} {E} {rng} {rng′} {after} {draws} buf n m eights F en hn =
         ∙ ap (λ (k : ℕ). getD (W i) k 0) e′
 
 -- the same draws, counted otherwise
-pub drawn-same : {G : Type 0} {E : Engine G} {g g′ : G} {a b : List ℕ} {m n draws : ℕ} → Drawn E g m a b draws g′ → m ≡ n → Drawn E g n a b draws g′
+pub drawn-same : {G : Type 0} {E : Engine G} {g g′ : G} {a b : List ℕ} {m n draws : ℕ} → Drawn E g m a b draws g′ → m ≡ n
+    → Drawn E g n a b draws g′
 drawn-same D e = rw (← e) D
 
 -- ---- q groups of a buffer, stored one after another

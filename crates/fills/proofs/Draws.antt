@@ -39,7 +39,8 @@ module _ {G A : Type 0} {E : Engine G} {K : Kind A} {g : G} {old : List A} where
       }
 
   -- a turn of one draw, whose words are w
-  pub one-draw : {m : ℕ} {out out′ : List A} {j : ℕ} {rng rng′ : G} {w : List ℕ} → K .draws ≡ 1 → Turning E K g old m out j rng → j < m → w ≡ E .words rng
+  pub one-draw : {m : ℕ} {out out′ : List A} {j : ℕ} {rng rng′ : G} {w : List ℕ} → K .draws ≡ 1 → Turning E K g old m out j rng → j < m
+      → w ≡ E .words rng
       → rng′ ≡ E .next rng → out′ ≡ stored out (j * K .places) (K .group (λ _. w)) → Turning E K g old m out′ (j + 1) rng′
   unfolding iterate
   one-draw {rng = rng} {w = w} e T h ew er eo =
@@ -54,7 +55,8 @@ module _ {G A : Type 0} {E : Engine G} {K : Kind A} {g : G} {old : List A} where
   two-draws {rng = rng} f ev e T h ea em eb er eo =
       turn T h (ap₂ f ea (eb ∙ ap (E .words) em) ∙ sym (ev (wordsFrom E rng))) eo (er ∙ ap (E .next) em ∙ ap (λ (k : ℕ). iterate (E .next) k rng) (sym e))
 
-  pub turns-end : {m : ℕ} {out : List A} {j draws : ℕ} {rng : G} → Turning E K g old m out j rng → m ≤ j → draws ≡ K .draws * m → Filled E K g old out draws rng
+  pub turns-end : {m : ℕ} {out : List A} {j draws : ℕ} {rng : G} → Turning E K g old m out j rng → m ≤ j → draws ≡ K .draws * m
+      → Filled E K g old out draws rng
   turns-end {m} {out} {j} T h ed =
       let e : j ≡ m = omega arith in
       let F = T .fills in

@@ -108,7 +108,8 @@ module _ {G A : Type 0} {E : Engine G} {K : Kind A} {g : G} {old : List A} where
         ];
       }
 
-  pub same-place : {out : List A} {at draws : ℕ} {rng : G} → Filling E K g old out at draws rng → {at′ draws′ : ℕ} → at ≡ at′ → draws ≡ draws′ → Filling E K g old out at′ draws′ rng
+  pub same-place : {out : List A} {at draws : ℕ} {rng : G} → Filling E K g old out at draws rng → {at′ draws′ : ℕ} → at ≡ at′
+      → draws ≡ draws′ → Filling E K g old out at′ draws′ rng
   same-place F p q = rw (← p, ← q) F
 
   pub finish : {out : List A} {at draws : ℕ} {rng : G} → Filling E K g old out at draws rng → length old ≤ at
@@ -124,5 +125,7 @@ module _ {G A : Type 0} {E : Engine G} {K : Kind A} {g : G} {old : List A} where
       }
 
 -- a fill keeps the length
-pub filled-long : {G A : Type 0} {E : Engine G} {K : Kind A} {g g′ : G} {before after : List A} {draws : ℕ} → Filled E K g before after draws g′ → length after ≡ length before
-filled-long {G} {A} {E} {K} {g} {g′} {before} {after} {draws} F = ap length (F .writes) ∙ length-table (length before) (element K (wordsFrom E g))
+pub filled-long : {G A : Type 0} {E : Engine G} {K : Kind A} {g g′ : G} {before after : List A} {draws : ℕ}
+    → Filled E K g before after draws g′ → length after ≡ length before
+filled-long {G} {A} {E} {K} {g} {g′} {before} {after} {draws} F =
+    ap length (F .writes) ∙ length-table (length before) (element K (wordsFrom E g))

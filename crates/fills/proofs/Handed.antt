@@ -13,7 +13,8 @@ use Rattle.fills.specs.FillBytes.{refusalOf, bytesWritten, bytesDraws, F
 use Rattle.fills.specs.Handed.{RightFill, RightBytes}
 
 module _ {G : Type 0} {E : Engine G} {g g′ : G} (W : ℕ → List ℕ) (e : (m : ℕ) → wordsFrom E g m ≡ W m) where
-  pub right-fill : {A : Type 0} {K : Kind A} {before after : List A} {draws : ℕ} → Filled E K g before after draws g′ → RightFill W K before after draws
+  pub right-fill : {A : Type 0} {K : Kind A} {before after : List A} {draws : ℕ} → Filled E K g before after draws g′
+      → RightFill W K before after draws
   right-fill {A} {K} {before} h = record { writes = h .writes ∙ ap (λ (X : ℕ → List ℕ). table (length before) (element K X)) (fun-ext e); count = h .count }
 
 module _ {G : Type 0} {E : Engine G} {k : ℕ} {g g′ : G} {before after : List ℕ} {refusal draws : ℕ}

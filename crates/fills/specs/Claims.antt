@@ -97,5 +97,6 @@ Refusals = (k n : ℕ) → Judged k n
 abbrev pub BytesOfTheFill : Type 1
 BytesOfTheFill =
     (G : Type 0) (E : Engine G) (k : ℕ) (g gᵇ gᵗ : G) (before after : List ℕ) (old new : List (kindAt k .Element)) (dᵇ dᵗ : ℕ)
-    → FilledBytes E k g before after 0 dᵇ gᵇ → Filled E (kindAt k .kind) g old new dᵗ gᵗ → length before ≡ length old * kindAt k .kind .width
+    → FilledBytes E k g before after 0 dᵇ gᵇ → Filled E (kindAt k .kind) g old new dᵗ gᵗ
+    → length before ≡ length old * kindAt k .kind .width
     → (after ≡ flat (bytesOf (kindAt k .kind)) new) × (dᵇ ≡ dᵗ) × (gᵇ ≡ gᵗ)

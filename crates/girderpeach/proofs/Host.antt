@@ -91,7 +91,8 @@ module _ {G : Type 0} {E : Engine G} {k : ℕ} {g g′ : G} {out out′ : List �
 
 module _ {G : Type 0} (H : Forms G) (form : List ℕ) (k : ℕ) (out : List ℕ) where
   -- the form is refused
-  pub fill-no-form : {r : ℕ} {answer : ℤ} → r ≡ H .refusal form → (r ≡ 0 → ⊥) → answer ≡ answerOf r 0 → HostFill H form k out answer form out
+  pub fill-no-form : {r : ℕ} {answer : ℤ} → r ≡ H .refusal form → (r ≡ 0 → ⊥) → answer ≡ answerOf r 0
+      → HostFill H form k out answer form out
   fill-no-form {r} e h q =
       let f : r ≡ fillRefusal H form k out = e ∙ sym (first-some (H .refusal form) (refusalOf k (length out)) (λ z. h (e ∙ z))) in
       record { called = called-refused f h q; writes = sym (unless-some (fillRefusal H form k out) (λ z. h (f ∙ z)) _ out) }
@@ -109,7 +110,8 @@ module _ {G : Type 0} (H : Forms G) (form : List ℕ) (k : ℕ) (out : List ℕ)
         }
 
     -- nothing is
-    pub fill-done : {n r′ : ℕ} {form′ : List ℕ} {answer : ℤ} → Sound H n → g ≡ H .read form → r ≡ 0 → Saved n (H .form g′) form form′ r′ → answer ≡ answerOf 0 draws → HostFill H form k out answer form′ out′
+    pub fill-done : {n r′ : ℕ} {form′ : List ℕ} {answer : ℤ} → Sound H n → g ≡ H .read form → r ≡ 0 → Saved n (H .form g′) form form′ r′
+        → answer ≡ answerOf 0 draws → HostFill H form k out answer form′ out′
     fill-done s eg er S q =
         let f : fillRefusal H form k out ≡ 0 = sym refusal-is ∙ er in
         let d : draws ≡ bytesDraws k (length out) = F .count ∙ unless-none r er (bytesDraws k (length out)) 0 in

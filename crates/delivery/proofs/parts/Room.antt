@@ -86,7 +86,9 @@ module _ (k left n : ℕ) {b : Bool} (e : b ≡ isKind k) where
 
   in-table : b ≡ true → {w : ℕ} → w ≡ widthOf k → placesOf k left n ≡ min left (16 * (n / (16 * w)))
   unfolding placesOf
-  in-table z {w} ew = ap (λ (x : Bool). cond x (min left (16 * (n / (16 * widthOf k)))) 0) (sym e ∙ z) ∙ ap (λ (x : ℕ). min left (16 * (n / (16 * x)))) (sym ew)
+  in-table z {w} ew =
+      ap (λ (x : Bool). cond x (min left (16 * (n / (16 * widthOf k)))) 0) (sym e ∙ z)
+      ∙ ap (λ (x : ℕ). min left (16 * (n / (16 * x)))) (sym ew)
 
   pub all-left : b ≡ true → {w : ℕ} → w ≡ widthOf k → left < 16 * (n / (16 * w)) → placesOf k left n ≡ left
   all-left z ew h = in-table z ew ∙ omega arith

@@ -46,7 +46,8 @@ module _ (d : Delivery) (e : d .left ≡ 0) where
   no-bytes = ap (λ (n : ℕ). n * widthOf (d .kind)) e ∙ zero-mul (widthOf (d .kind))
 
   nothing-whole : wholeOf d ≡ []
-  nothing-whole = ap (bytesWritten (d .kind) (wordsFrom either (d .source))) no-bytes ∙ none-written (d .kind) (wordsFrom either (d .source))
+  nothing-whole =
+      ap (bytesWritten (d .kind) (wordsFrom either (d .source))) no-bytes ∙ none-written (d .kind) (wordsFrom either (d .source))
 
   nothing-drawn : d .source ≡ iterate nextOf (drawsOf d) (d .source)
   unfolding iterate

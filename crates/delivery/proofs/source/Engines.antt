@@ -23,7 +23,8 @@ module _ {G S : Type 0} (E : Engine G) (E′ : Engine S) (hold : G → S) (on : 
   held-draws zero g = refl
   held-draws (suc m) g = ap (E′ .next) (held-draws m g) ∙ on (iterate (E .next) m g)
 
-  held-bytes : ((g : G) → E′ .words (hold g) ≡ E .words g) → {k : ℕ} {g g′ : G} {before after : List ℕ} {refusal draws : ℕ} → FilledBytes E k g before after refusal draws g′
+  held-bytes : ((g : G) → E′ .words (hold g) ≡ E .words g) → {k : ℕ} {g g′ : G} {before after : List ℕ} {refusal draws : ℕ}
+      → FilledBytes E k g before after refusal draws g′
       → FilledBytes E′ k (hold g) before after refusal draws (hold g′)
   held-bytes same {k} {g} {g′} {before} {after} {refusal} {draws} F =
       let e : (m : ℕ) → wordsFrom E g m ≡ wordsFrom E′ (hold g) m = λ m. sym (ap (E′ .words) (held-draws m g) ∙ same (iterate (E .next) m g)) in
@@ -75,7 +76,8 @@ module _ {engine : ℕ} (h : engine ≡ 1) where
   drawn-1 seed block m = ap wordsOf (sym (started-1 seed block m refl refl)) ∙ words-1 engine (eq-eqb engine 1 h) (fresh 0 0) (iterate xoshiroNext m (placed seed block .rng))
 
   pub filled-1 : {k : ℕ} {p : Philox4x32X8} {x x′ : Xoshiro256ppX8} {before after : List ℕ} {refusal draws : ℕ}
-      → FilledBytes xoshiroEngine k x before after refusal draws x′ → FilledBytes either k (sourceOf engine x p) before after refusal draws (sourceOf engine x′ p)
+      → FilledBytes xoshiroEngine k x before after refusal draws x′
+      → FilledBytes either k (sourceOf engine x p) before after refusal draws (sourceOf engine x′ p)
   filled-1 {p = p} F = let e = eq-eqb engine 1 h in held-bytes xoshiroEngine either (λ x. sourceOf engine x p) (next-1 engine e p) (words-1 engine e p) F
 
 module _ {engine : ℕ} (h : engine ≡ 1 → ⊥) where
@@ -89,5 +91,7 @@ module _ {engine : ℕ} (h : engine ≡ 1 → ⊥) where
   drawn-2 seed block m = ap wordsOf (sym (started-2 seed block m refl)) ∙ words-2 engine (ne-eqb engine 1 h) blank8 (iterate philoxNext m (fresh seed block))
 
   pub filled-2 : {k : ℕ} {x : Xoshiro256ppX8} {p p′ : Philox4x32X8} {before after : List ℕ} {refusal draws : ℕ}
-      → FilledBytes philoxEngine k p before after refusal draws p′ → FilledBytes either k (sourceOf engine x p) before after refusal draws (sourceOf engine x p′)
-  filled-2 {x = x} F = let e = ne-eqb engine 1 h in held-bytes philoxEngine either (sourceOf engine x) (next-2 engine e x) (words-2 engine e x) F
+      → FilledBytes philoxEngine k p before after refusal draws p′
+      → FilledBytes either k (sourceOf engine x p) before after refusal draws (sourceOf engine x p′)
+  filled-2 {x = x} F =
+      let e = ne-eqb engine 1 h in held-bytes philoxEngine either (sourceOf engine x) (next-2 engine e x) (words-2 engine e x) F

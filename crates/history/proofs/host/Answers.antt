@@ -51,7 +51,8 @@ module _ {G : Type 0} {H : Forms G} {form : List ℕ} {k : ℕ} {before : List �
   accepted z = read (first-none (H .refusal form) (refusalOf k (length before)) z)
 
   -- it is right, where W m are the words of draw m from g
-  pub right : {r : ℕ} → fillRefusal H form k before ≡ r → (W : ℕ → List ℕ) → ((m : ℕ) → wordsFrom (H .engine) g m ≡ W m) → RightAnswer r W k before after answer form form′
+  pub right : {r : ℕ} → fillRefusal H form k before ≡ r → (W : ℕ → List ℕ) → ((m : ℕ) → wordsFrom (H .engine) g m ≡ W m)
+      → RightAnswer r W k before after answer form form′
   right e W same =
       record {
         answers = F .called .answers ∙ ap (λ (x : ℕ). answerOf x (bytesDraws k (length before))) e;
@@ -64,7 +65,8 @@ module _ {G : Type 0} {H : Forms G} {form : List ℕ} {k : ℕ} {before : List �
   -- the draws of an accepted fill are made, and none of a refused one
   pub leaves : form ≡ H .form g → form′ ≡ H .form (iterate (H .engine .next) (ifAccepted answer (bytesDraws k (length before)) 0) g)
   unfolding iterate
-  leaves e = saved (F .called) (λ z. ap (λ (x : G). H .form (iterate (H .engine .next) (bytesDraws k (length before)) x)) (accepted z)) ∙ go answer
+  leaves e =
+      saved (F .called) (λ z. ap (λ (x : G). H .form (iterate (H .engine .next) (bytesDraws k (length before)) x)) (accepted z)) ∙ go answer
     where
       go : (a : ℤ) → ifAccepted a (H .form (iterate (H .engine .next) (bytesDraws k (length before)) g)) form ≡ H .form (iterate (H .engine .next) (ifAccepted a (bytesDraws k (length before)) 0) g)
       go (pos n) = refl

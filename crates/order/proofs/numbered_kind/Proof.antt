@@ -19,7 +19,8 @@ returns c = let p = c .before .before in rw (read _ (p .read-number .ensures) (p
 
 returns-2 : tie.Need-returns-2
 unfolding numbered
-returns-2 c = let p = c .before .before .before in rw (read _ (p .read-number .ensures) (p .before .count .ensures) (c .before .k .given .1)) refl
+returns-2 c =
+    let p = c .before .before .before in rw (read _ (p .read-number .ensures) (p .before .count .ensures) (c .before .k .given .1)) refl
 
 pub numbered-kind-spec : {M : Type 1} → statement M
 numbered-kind-spec =

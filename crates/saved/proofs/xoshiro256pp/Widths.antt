@@ -88,7 +88,8 @@ small-seeded : (seed : ℕ) → Word64s (seeded seed)
 unfolding seeded kept seedWords
 small-seeded seed = go (allZero (seedWords seed))
   where
-    go : (b : Bool) → Word64s (cond b (record { w0 = 1; w1 = seedWords seed .w1; w2 = seedWords seed .w2; w3 = seedWords seed .w3 }) (seedWords seed))
+    go : (b : Bool)
+        → Word64s (cond b (record { w0 = 1; w1 = seedWords seed .w1; w2 = seedWords seed .w2; w3 = seedWords seed .w3 }) (seedWords seed))
     go true = record { w0 = lit< tt; w1 = small-mixed _; w2 = small-mixed _; w3 = small-mixed _ }
     go false = record { w0 = small-mixed _; w1 = small-mixed _; w2 = small-mixed _; w3 = small-mixed _ }
 

@@ -10,4 +10,5 @@ returns-2 : tie.Need-returns-2
 returns-2 c = search needs
 
 pub fill-normal-f32-spec : {M : Type 1} → statement M
-fill-normal-f32-spec = tie.close (tie.spec (λ c κs. search needs) (λ c. search needs) returns (λ c κs. search needs) (λ c. search needs) returns-2)
+fill-normal-f32-spec =
+    tie.close (tie.spec (λ c κs. search needs) (λ c. search needs) returns (λ c κs. search needs) (λ c. search needs) returns-2)
