@@ -74,9 +74,9 @@ static void *object(const char *dir, const char *name) {
     return o;
 }
 
-/* A generator of one of our libraries, on a boundary of 64 bytes: at x86-64-v4 a row is moved at once. */
+/* A generator of one of our libraries. */
 typedef union {
-    _Alignas(64) uint64_t rows[32];
+    uint64_t rows[32];
     philox counted;
     uint8_t form[GP_XOSHIRO_FORM];
 } generator;
