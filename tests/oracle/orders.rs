@@ -7,10 +7,15 @@ use tpt_simd_rng::{Philox4x32X8, Rng8, Xoshiro256ppX8};
 
 const NAMES: [&str; 6] = ["u64", "u32", "f32", "f64", "normal_f32", "normal_f64"];
 
+/// The values that are made at once: whole groups of every kind, so that an order of any length fits in the memory.
+const PIECE: usize = 1 << 24;
+
 fn deliver<R: Saved + Clone>(mut rng: R, first: u64, kind: u64, count: usize) {
     let mut copy = rng.clone();
-    let (_, out) = filled(&mut rng, kind, count);
-    std::io::stdout().write_all(&out).expect("standard output");
+    for from in (0..count).step_by(PIECE) {
+        let (_, out) = filled(&mut rng, kind, PIECE.min(count - from));
+        std::io::stdout().write_all(&out).expect("standard output");
+    }
     let mut end = first;
     while copy.form() != rng.form() {
         copy.next_u64x8();
