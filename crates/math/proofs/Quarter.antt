@@ -181,15 +181,15 @@ bits-there f N lo hi =
     room binary64 = lit< tt
 
 -- ---- four times a value that fits is exact, below 2^(prec - 2)
-abbrev four : Float
+abbrev pub four : Float
 four = fin false 1 (pos 2)
 
 -- 1.5 * 2^(prec - 1), and half of it
-abbrev magic : Format → Float
+abbrev pub magic : Format → Float
 magic binary32 = fin false 3 (pos 22)
 magic binary64 = fin false 3 (pos 51)
 
-abbrev half : Format → ℕ
+abbrev pub half : Format → ℕ
 half f = 3 * 2 ^ (prec f - 3)
 
 unlike-false : (s : Bool) → unlike false s ≡ s
@@ -230,7 +230,7 @@ magic-value binary32 c = (refl, sym (mul-one (2 * half binary32 * c)))
 magic-value binary64 c = (refl, sym (mul-one (2 * half binary64 * c)))
 
 -- the numerator of b / c ± a / c
-abbrev shifted : Bool → ℕ → ℕ → ℕ
+abbrev pub shifted : Bool → ℕ → ℕ → ℕ
 shifted true a b = b - a
 shifted false a b = b + a
 
@@ -261,7 +261,7 @@ halves : (f : Format) → (2 * half f ≡ 3 * 2 ^ (prec f - 2)) × (2 ^ (prec f 
 halves binary32 = (refl, refl, refl, refl)
 halves binary64 = (refl, refl, refl, refl)
 
-closest-le : (a c u : ℕ) → 0 < c → a < u * c → closest a c ≤ u
+pub closest-le : (a c u : ℕ) → 0 < c → a < u * c → closest a c ≤ u
 closest-le a c u C l = le-trans (nearest-le (a / c) (compare (a % c * 2) c)) (div-lt-iff-lt-mul C .1 l)
 
 -- the same, times c
@@ -293,27 +293,45 @@ low-two : (s : Bool) (n u b : ℕ) → n ≤ u → b ≡ 3 * u → b % 4 ≡ 0 �
 low-two false n u b l p q = omega arith
 low-two true n u b l p q = omega arith
 
--- `closest a c` is the whole number nearest to a / c, ties to even. The value t is ± m * 2^e, so 4t is ± a / c with a = 4 * (m * up e) and c = down e.
-pub quarter : (f : Format) (s : Bool) (m : ℕ) (e : ℤ) → T (fits f (fin s m e)) → 4 * (m * up e) < 2 ^ (prec f - 2) * down e
-    → toBits f (add f (mul f four (fin s m e)) (magic f)) % 4 ≡ modulo4 s (closest (4 * (m * up e)) (down e))
-quarter f s m e t l =
+-- `closest a c` is the whole number nearest to a / c, ties to even. The value t is ± m * 2^e, so 4t is ± a / c with a = 4 * (m * up e)
+-- and c = down e. The sum 4t + MAGIC is that number more or less than MAGIC, in units of the format's smallest value.
+abbrev pub total : Format → Bool → ℕ → ℤ → ℕ
+total f s m e = shifted s (closest (4 * (m * up e)) (down e)) (2 * half f)
+
+pub sum-is : (f : Format) (s : Bool) (m : ℕ) (e : ℤ) → T (fits f (fin s m e)) → 4 * (m * up e) < 2 ^ (prec f - 2) * down e
+    → add f (mul f four (fin s m e)) (magic f) ≡ units f false (total f s m e) (low f)
+sum-is f s m e t l =
     let a = 4 * (m * up e) in
     let c = down e in
     let u = 2 ^ (prec f - 2) in
     let b = 2 * half f in
     let C = down-pos e in
     let k = scaled-halves f c in
-    let h = halves f in
     let w = bounds s a (u * c) (b * c) (2 ^ (prec f - 1) * c) (2 ^ prec f * c) l (k .0) (k .1) (k .2) in
-    let n = closest a c in
-    let n-le = closest-le a c u C l in
-    let v = bounds-le s n u b (2 ^ (prec f - 1)) (2 ^ prec f) n-le (h .0) (h .1) (h .2) in
-    ap (λ (x : Float). toBits f x % 4)
-    (add-values f (mul f four (fin s m e)) (magic f) s a (b * c) c C (under (b * c) (u * c) a (k .0) l) (fourth f s m e t l) (magic-value f c)
+    add-values f (mul f four (fin s m e)) (magic f) s a (b * c) c C (under (b * c) (u * c) a (k .0) l)
+    (fourth f s m e t l) (magic-value f c)
     ∙ round-there f (shifted s a (b * c)) c C (w .0) (w .1)
-    ∙ ap (λ (x : ℕ). units f false x (low f)) (nearest-whole f s a c C l))
-    ∙ bits-there f (shifted s n b) (v .0) (v .1)
-    ∙ low-two s n u b n-le (h .0) (h .3)
+    ∙ ap (λ (x : ℕ). units f false x (low f)) (nearest-whole f s a c C l)
   where
     under : (b x a : ℕ) → b ≡ 3 * x → a < x → a < b
     under b x a e l = omega arith
+
+pub total-bounds : (f : Format) (s : Bool) (m : ℕ) (e : ℤ) → 4 * (m * up e) < 2 ^ (prec f - 2) * down e
+    → (2 ^ (prec f - 1) ≤ total f s m e) × (total f s m e ≤ 2 ^ prec f)
+total-bounds f s m e l =
+    let h = halves f in
+    let a = 4 * (m * up e) in
+    let u = 2 ^ (prec f - 2) in
+    let n-le = closest-le a (down e) u (down-pos e) l in
+    bounds-le s (closest a (down e)) u (2 * half f) (2 ^ (prec f - 1)) (2 ^ prec f) n-le (h .0) (h .1) (h .2)
+
+pub quarter : (f : Format) (s : Bool) (m : ℕ) (e : ℤ) → T (fits f (fin s m e)) → 4 * (m * up e) < 2 ^ (prec f - 2) * down e
+    → toBits f (add f (mul f four (fin s m e)) (magic f)) % 4 ≡ modulo4 s (closest (4 * (m * up e)) (down e))
+quarter f s m e t l =
+    let a = 4 * (m * up e) in
+    let u = 2 ^ (prec f - 2) in
+    let h = halves f in
+    let v = total-bounds f s m e l in
+    ap (λ (x : Float). toBits f x % 4) (sum-is f s m e t l)
+    ∙ bits-there f (total f s m e) (v .0) (v .1)
+    ∙ low-two s (closest a (down e)) u (2 * half f) (closest-le a (down e) u (down-pos e) l) (h .0) (h .3)

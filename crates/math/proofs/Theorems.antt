@@ -1,22 +1,27 @@
 -- The claims of specs/Claims.antt. Assumes nothing.
-use mathlib.Core.Bool.{Bool, true, false}
-use mathlib.Core.Path.{refl}
-use Prim.Native.Nat.{ℕ, _-_, _*_, _^_, _≤_, _<_}
+use mathlib.Core.Bool.{Bool, true, false, not}
+use mathlib.Core.Path.{_≡_, refl, sym, ap, _∙_, subst}
+use Prim.Native.Nat.{ℕ, _+_, _-_, _*_, _%_, _^_, _≤_, _<_}
+use native.Mathlib.Nat.{le-trans}
 use native.Mathlib.Omega.{arith}
-use lib.Dec.{T, ltb, ltb→lt}
-use lib.IntN.{ℤ, pos}
-use lib.Ieee.{Format, binary32, binary64, fin, up, down, emax, prec, lt, round, add, sub, mul, div, neg, ofInt, ofBits, toBits}
-use lib.Ieee.Fits.{and-l, and-r}
+use lib.Dec.{T, ltb, ltb→lt, lit≤}
+use lib.IntN.{ℤ, pos, natAbs}
+use lib.Signed.{nonNeg}
+use lib.Ieee.{Float, Format, binary32, binary64, fin, up, down, emax, prec, lt, round, add, sub, mul, div, neg, ofInt, ofBits, toBits}
+use lib.Ieee.Exact.{HasValue}
+use lib.Ieee.Fits.{and-l, and-r, down-pos}
+use mir.Val.{ofZ}
 use Rattle.floats.specs.patterns.Domains.{reach, inReach}
 use Rattle.floats.specs.patterns.Polynomial.{horner}
 use Rattle.math.specs.BoxMuller.{minusTwice}
 use Rattle.math.specs.Ln.{exponent32, exponent64, coefficients32, coefficients64, reduced32, reduced64, lnBits32, lnBits64, ln}
-use Rattle.math.specs.Turns.{shifted, quarter}
+use Rattle.math.specs.Turns.{shifted, quarter, wholeQuarters}
 use Rattle.math.specs.Sqrt.{guessOf, newtonStep, corrected, sqrt}
 use Rattle.floats.specs.units.Unit.{digits, places, unit, oneMinusUnit}
 use Rattle.floats.proofs.units.Theorems.{digits-lt, unit-exact, one-minus-unit-exact}
-use Rattle.math.specs.Claims.{QuarterNearest, AtOne, UnitsPass}
+use Rattle.math.specs.Claims.{modulo4, signed, nearest4, width, cast, WholeQuarters, QuarterNearest, QuarterWhole, AtOne, UnitsPass}
 use Rattle.math.proofs.Quarter as quarters
+use Rattle.math.proofs.Whole.{whole-is, of-int-value, cast-back, low-bits, abs-signed}
 use Rattle.math.proofs.Range.{first-passes, second-passes}
 
 -- a turn in reach is below 2 ^ reach in size
@@ -33,6 +38,47 @@ pub quarter-nearest : QuarterNearest
 unfolding quarter shifted round
 quarter-nearest binary32 s m e t r = quarters.quarter binary32 s m e t (four-times binary32 (m * up e) (down e) (size-lt binary32 s m e r))
 quarter-nearest binary64 s m e t r = quarters.quarter binary64 s m e t (four-times binary64 (m * up e) (down e) (size-lt binary64 s m e r))
+
+-- a turn in reach is a whole number of at most 2 ^ (reach + 2) quarters, which has fewer digits than the format keeps
+in-reach-le : (f : Format) (s : Bool) (m : ℕ) (e : ℤ) → T (inReach f (fin s m e)) → nearest4 m e ≤ 2 ^ (reach f + 2)
+in-reach-le f s m e r =
+    quarters.closest-le (4 * (m * up e)) (down e) (2 ^ (reach f + 2)) (down-pos e) (go f (m * up e) (down e) (size-lt f s m e r))
+  where
+    go : (f : Format) (x d : ℕ) → x * 1 < 1 * 2 ^ reach f * d → 4 * x < 2 ^ (reach f + 2) * d
+    go binary32 x d h = omega arith
+    go binary64 x d h = omega arith
+
+short : (f : Format) → 2 ^ (reach f + 2) ≤ 2 ^ prec f
+short binary32 = lit≤ tt
+short binary64 = lit≤ tt
+
+-- what the float and the quarter come to, put together
+together : (f : Format) (s : Bool) (m : ℕ) (e : ℤ) → T (inReach f (fin s m e))
+    → wholeQuarters f (fin s m e) ≡ ofInt f (signed s (nearest4 m e))
+    → quarter f (fin s m e) ≡ modulo4 s (nearest4 m e) → WholeQuarters f (fin s m e) (signed s (nearest4 m e))
+together f s m e r q p =
+    let n = nearest4 m e in
+    let z = signed s n in
+    let small : n ≤ 2 ^ (reach f + 2) = in-reach-le f s m e r in
+    let size : natAbs z ≤ 2 ^ (reach f + 2) = subst (λ (k : ℕ). k ≤ 2 ^ (reach f + 2)) (sym (abs-signed s n)) small in
+    let held : natAbs z ≤ 2 ^ prec f = le-trans size (short f) in
+    let whole : cast f (wholeQuarters f (fin s m e)) ≡ z = ap (cast f) q ∙ cast-back f z held in
+    record {
+      is = q;
+      value = subst (λ (x : Float). HasValue x (not (nonNeg z)) (natAbs z) 1) (sym q) (of-int-value f z held);
+      size = size;
+      whole = whole;
+      low-bits = ap (λ (k : ℤ). ofZ (width f) k % 4) whole ∙ low-bits f s n (le-trans small (short f)) ∙ sym p;
+    }
+
+pub quarter-whole : QuarterWhole
+unfolding quarter shifted round
+quarter-whole binary32 s m e t r =
+    let l = four-times binary32 (m * up e) (down e) (size-lt binary32 s m e r) in
+    together binary32 s m e r (whole-is binary32 s m e t l) (quarters.quarter binary32 s m e t l)
+quarter-whole binary64 s m e t r =
+    let l = four-times binary64 (m * up e) (down e) (size-lt binary64 s m e r) in
+    together binary64 s m e r (whole-is binary64 s m e t l) (quarters.quarter binary64 s m e t l)
 
 pub at-one : AtOne
 unfolding ln lnBits32 lnBits64 exponent32 exponent64 reduced32 reduced64 coefficients32 coefficients64 horner minusTwice sqrt guessOf newtonStep corrected ofBits toBits mul add sub div neg lt ofInt round

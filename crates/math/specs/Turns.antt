@@ -21,9 +21,13 @@ shifted f t = add f (mul f (lit f 4 0) t) (magic f)
 unfoldable pub quarter : Format → Float → ℕ
 quarter f t = toBits f (shifted f t) % 4
 
+-- the Rust's q, (4 t + MAGIC) - MAGIC: a whole number of quarters
+abbrev pub wholeQuarters : Format → Float → Float
+wholeQuarters f t = sub f (shifted f t) (magic f)
+
 -- the angle that is left, (t - q * 0.25) * TAU
 unfoldable pub angle : Format → Float → Float
-angle f t = mul f (sub f t (mul f (sub f (shifted f t) (magic f)) (lit f 25 2))) (lit f 628318530717958647692528676655900577 35)
+angle f t = mul f (sub f t (mul f (wholeQuarters f t) (lit f 25 2))) (lit f 628318530717958647692528676655900577 35)
 
 unfoldable pub sinCoefficients64 : List Float
 sinCoefficients64 =

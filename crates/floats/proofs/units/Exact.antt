@@ -1,12 +1,13 @@
 -- Products and differences of dyadic fractions that the format holds: nothing is rounded. Stated once over the format. Assumes nothing.
 use mathlib.Core.Path.{_≡_, refl, sym, ap, _∙_, subst}
 use Prim.Native.Nat.{ℕ, suc, _+_, _-_, _*_, _/_, _%_, _^_, _≤_, _<_}
+use native.Mathlib.Nat.{lt-of-le-of-lt, lt-of-mul-lt-mul-right, mul-lt-mul-of-pos-right}
 use native.Mathlib.Nat.{le-trans, le-of-eq, not-le-of-lt, le-of-mul-le-mul-right, mul-le-mul-right, mul-comm, mul-assoc, mul-one, one-mul, mul-pos, mul-mul-mul-comm, mul-right-comm, lt-of-lt-of-le, zero-lt-suc, eq-or-lt-of-le, mul-sub, eq-of-mul-eq-mul-right}
-use borrow.Author.Tests.{lt-leb}
+use borrow.Author.Tests.{lt-leb, lt-ltb}
 use native.Mathlib.Omega.{arith}
 use mathlib.Core.Logic.{_⊎_, inl, inr}
 use mathlib.Core.Bool.{Bool, true, false, cond, true≢false}
-use lib.IntN.{pos}
+use lib.IntN.{ℤ, pos}
 use lib.Dec.{T, ltb, leb, ltb→lt, le→leb, lit<, lit≤}
 use lib.Pow.{pow-add, pow-pos, pow-mono, pow-lt, shl-lt}
 use lib.Ieee.{Float, fin, Format, binary32, binary64, prec, emax, low, up, down, unlike, round, mul, sub, sum, ofInt, inFloat, hid, top, odd, ofFields, ofBits}
@@ -67,7 +68,7 @@ mul-values f (fin s m e) (fin t n g) s' t' a c b d C D h k =
     ∙ round-same f (unlike s' t') (m * up e * (n * up g)) (down e * down g) (a * b) (c * d) (mul-pos (down-pos e) (down-pos g)) (mul-pos C D)
     (mul-mul-mul-comm (m * up e) (n * up g) c d ∙ ap (λ (z : ℕ). z * (n * up g * d)) (h .1) ∙ ap (λ (z : ℕ). a * down e * z) (k .1) ∙ mul-mul-mul-comm a (down e) b (down g))
 
--- ---- a difference a / c - b / c that is not negative
+-- ---- a difference a / c - b / c, not negative and negative
 pub sub-mul : (a b c : ℕ) → (a - b) * c ≡ a * c - b * c
 sub-mul a b c = mul-comm (a - b) c ∙ mul-sub c a b ∙ ap (λ (z : ℕ). z - c * b) (mul-comm c a) ∙ ap (λ (z : ℕ). a * c - z) (mul-comm c b)
 
@@ -79,20 +80,43 @@ pick f a b c h = go (ltb a b) (ltb→lt a b)
     go true k = absurd (not-le-of-lt (k tt) h)
     go false k = refl
 
-sub-values : (f : Format) (x y : Float) (a b c : ℕ) → 0 < c → b ≤ a → HasValue x false a c → HasValue y false b c → sub f x y ≡ round f false (a - b) c
+-- a value a / c as a fraction over both denominators
+over-both : (m : ℕ) (e g : ℤ) (a c : ℕ) → m * up e * c ≡ a * down e → m * up e * down g * c ≡ a * (down e * down g)
+over-both m e g a c h = mul-right-comm (m * up e) (down g) c ∙ ap (λ (z : ℕ). z * down g) h ∙ mul-assoc a (down e) (down g)
+
+pub sub-values : (f : Format) (x y : Float) (a b c : ℕ) → 0 < c → b ≤ a → HasValue x false a c → HasValue y false b c
+    → sub f x y ≡ round f false (a - b) c
 unfolding sub
 sub-values f (fin false m e) (fin false n g) a b c C l h k =
     let A = m * up e * down g in
     let B = n * up g * down e in
     let D = down e * down g in
-    let p : A * c ≡ a * D = mul-right-comm (m * up e) (down g) c ∙ ap (λ (z : ℕ). z * down g) (h .1) ∙ mul-assoc a (down e) (down g) in
-    let q : B * c ≡ b * D = mul-right-comm (n * up g) (down e) c ∙ ap (λ (z : ℕ). z * down e) (k .1) ∙ mul-assoc b (down g) (down e) ∙ ap (λ (z : ℕ). b * z) (mul-comm (down g) (down e)) in
+    let p : A * c ≡ a * D = over-both m e g a c (h .1) in
+    let q : B * c ≡ b * D = over-both n g e b c (k .1) ∙ ap (λ (z : ℕ). b * z) (mul-comm (down g) (down e)) in
     let o : B ≤ A = le-of-mul-le-mul-right (le-trans (le-of-eq q) (le-trans (mul-le-mul-right D l) (le-of-eq (sym p)))) C in
     pick f A B D o
     ∙ round-same f false (A - B) D (a - b) c (mul-pos (down-pos e) (down-pos g)) C
     (sub-mul A B c ∙ ap (λ (z : ℕ). z - B * c) p ∙ ap (λ (z : ℕ). a * D - z) q ∙ sym (sub-mul a b D))
 sub-values f (fin true m e) y a b c C l h k = absurd (true≢false (h .0))
 sub-values f (fin false m e) (fin true n g) a b c C l h k = absurd (true≢false (k .0))
+
+pub sub-less : (f : Format) (x y : Float) (a b c : ℕ) → 0 < c → a < b → HasValue x false a c → HasValue y false b c
+    → sub f x y ≡ round f true (b - a) c
+unfolding sub sum
+sub-less f (fin false m e) (fin false n g) a b c C l h k =
+    let A = m * up e * down g in
+    let B = n * up g * down e in
+    let D = down e * down g in
+    let P = mul-pos (down-pos e) (down-pos g) in
+    let p : A * c ≡ a * D = over-both m e g a c (h .1) in
+    let q : B * c ≡ b * D = over-both n g e b c (k .1) ∙ ap (λ (z : ℕ). b * z) (mul-comm (down g) (down e)) in
+    let o : A < B =
+    lt-of-mul-lt-mul-right c (lt-of-le-of-lt (le-of-eq p) (lt-of-lt-of-le (mul-lt-mul-of-pos-right l P) (le-of-eq (sym q)))) in
+    ap (λ (t : Bool). cond t (round f true (B - A) D) (round f false (A - B) D)) (lt-ltb A B o)
+    ∙ round-same f true (B - A) D (b - a) c P C
+    (sub-mul B A c ∙ ap (λ (z : ℕ). z - A * c) q ∙ ap (λ (z : ℕ). b * D - z) p ∙ sym (sub-mul b a D))
+sub-less f (fin true m e) y a b c C l h k = absurd (true≢false (h .0))
+sub-less f (fin false m e) (fin true n g) a b c C l h k = absurd (true≢false (k .0))
 
 -- ---- the laws that the functions cite
 -- a result that is the rounded fraction is the fraction
@@ -126,7 +150,7 @@ pub one-value : (k : ℕ) → HasValue (fin false 1 (pos 0)) false (2 ^ k) (2 ^ 
 one-value k = (refl, one-mul (2 ^ k) ∙ sym (mul-one (2 ^ k)))
 
 -- ---- the pattern of 1 with the digits t set is 1 + t / hid
-rescale : (x : Float) (s : Bool) (w l num den : ℕ) → 0 < l → num * l ≡ w * den → HasValue x s w l → HasValue x s num den
+pub rescale : (x : Float) (s : Bool) (w l num den : ℕ) → 0 < l → num * l ≡ w * den → HasValue x s w l → HasValue x s num den
 rescale (fin t m e) s w l num den p h v = (
   v .0,
   eq-of-mul-eq-mul-right l p (m * up e * den) (num * down e)

@@ -6,7 +6,7 @@ use lib.ListN.{replicate}
 use lib.Ieee.{Float, binary64}
 use Rattle.base.specs.Every.{every}
 use Rattle.floats.specs.patterns.Domains.{positiveNormal, inReach, hasRoot, isU1, isU2}
-use Rattle.floats.specs.patterns.Numbers.{zero}
+use Rattle.floats.specs.patterns.Numbers as numbers
 use Rattle.math_f64.specs.box_muller.Lanes as box
 use Rattle.math.specs.Ln.{ln}
 use Rattle.math_f64.specs.sincos_turns.Lanes as turns
@@ -16,7 +16,7 @@ use Rattle.math_f64.specs.declared.calls.CosSinLanes.{CosSinLanes}
 use Rattle.math_f64.specs.declared.calls.Lanes.{Lanes}
 
 abbrev pub zeros : List Float
-zeros = replicate 8 zero
+zeros = replicate 8 numbers.zero
 
 abbrev pub answer : Bool → ℕ → List Float → Lanes
 answer ok number value = cond ok (record { refusal = 0; value = value }) (record { refusal = number; value = zeros })
