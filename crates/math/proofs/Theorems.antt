@@ -7,7 +7,8 @@ use native.Mathlib.Omega.{arith}
 use lib.Dec.{T, ltb, ltb→lt, lit≤}
 use lib.IntN.{ℤ, pos, natAbs}
 use lib.Signed.{nonNeg}
-use lib.Ieee.{Float, Format, binary32, binary64, fin, up, down, emax, prec, lt, round, add, sub, mul, div, neg, ofInt, ofBits, toBits}
+use lib.Ieee.{Float, Format, binary32, binary64, prec, emax}
+use lib.Ieee.{fin, fits, up, down, lt, round, add, sub, mul, div, neg, ofInt, ofBits, toBits}
 use lib.Ieee.Exact.{HasValue}
 use lib.Ieee.Fits.{and-l, and-r, down-pos}
 use mir.Val.{ofZ}
@@ -19,7 +20,7 @@ use Rattle.math.specs.Turns.{shifted, quarter, wholeQuarters}
 use Rattle.math.specs.Sqrt.{guessOf, newtonStep, corrected, sqrt}
 use Rattle.floats.specs.units.Unit.{digits, places, unit, oneMinusUnit}
 use Rattle.floats.proofs.units.Theorems.{digits-lt, unit-exact, one-minus-unit-exact}
-use Rattle.math.specs.Claims.{modulo4, signed, nearest4, width, cast, WholeQuarters, QuarterNearest, QuarterWhole, AtOne, UnitsPass}
+use Rattle.math.specs.Claims.{signed, nearest4, width, cast, QuarterNearest, QuarterWhole, AtOne, UnitsPass}
 use Rattle.math.proofs.Quarter as quarters
 use Rattle.math.proofs.Whole.{whole-is, of-int-value, cast-back, low-bits, abs-signed}
 use Rattle.math.proofs.Range.{first-passes, second-passes}
@@ -39,7 +40,7 @@ unfolding quarter shifted round
 quarter-nearest binary32 s m e t r = quarters.quarter binary32 s m e t (four-times binary32 (m * up e) (down e) (size-lt binary32 s m e r))
 quarter-nearest binary64 s m e t r = quarters.quarter binary64 s m e t (four-times binary64 (m * up e) (down e) (size-lt binary64 s m e r))
 
--- a turn in reach is a whole number of at most 2 ^ (reach + 2) quarters, which has fewer digits than the format keeps
+-- a turn in reach is nearest to at most 2 ^ (reach + 2) quarters, a number of fewer digits than the format keeps
 in-reach-le : (f : Format) (s : Bool) (m : ℕ) (e : ℤ) → T (inReach f (fin s m e)) → nearest4 m e ≤ 2 ^ (reach f + 2)
 in-reach-le f s m e r =
     quarters.closest-le (4 * (m * up e)) (down e) (2 ^ (reach f + 2)) (down-pos e) (go f (m * up e) (down e) (size-lt f s m e r))
@@ -52,33 +53,29 @@ short : (f : Format) → 2 ^ (reach f + 2) ≤ 2 ^ prec f
 short binary32 = lit≤ tt
 short binary64 = lit≤ tt
 
--- what the float and the quarter come to, put together
-together : (f : Format) (s : Bool) (m : ℕ) (e : ℤ) → T (inReach f (fin s m e))
-    → wholeQuarters f (fin s m e) ≡ ofInt f (signed s (nearest4 m e))
-    → quarter f (fin s m e) ≡ modulo4 s (nearest4 m e) → WholeQuarters f (fin s m e) (signed s (nearest4 m e))
-together f s m e r q p =
+pub quarter-whole : QuarterWhole
+unfolding quarter shifted round
+quarter-whole f s m e t r =
     let n = nearest4 m e in
     let z = signed s n in
-    let small : n ≤ 2 ^ (reach f + 2) = in-reach-le f s m e r in
+    let q = float f t r in
+    let small = in-reach-le f s m e r in
     let size : natAbs z ≤ 2 ^ (reach f + 2) = subst (λ (k : ℕ). k ≤ 2 ^ (reach f + 2)) (sym (abs-signed s n)) small in
     let held : natAbs z ≤ 2 ^ prec f = le-trans size (short f) in
     let whole : cast f (wholeQuarters f (fin s m e)) ≡ z = ap (cast f) q ∙ cast-back f z held in
+    let bits = ap (λ (k : ℤ). ofZ (width f) k % 4) whole ∙ low-bits f s n (le-trans small (short f)) in
     record {
       is = q;
       value = subst (λ (x : Float). HasValue x (not (nonNeg z)) (natAbs z) 1) (sym q) (of-int-value f z held);
       size = size;
       whole = whole;
-      low-bits = ap (λ (k : ℤ). ofZ (width f) k % 4) whole ∙ low-bits f s n (le-trans small (short f)) ∙ sym p;
+      low-bits = bits ∙ sym (quarter-nearest f s m e t r);
     }
-
-pub quarter-whole : QuarterWhole
-unfolding quarter shifted round
-quarter-whole binary32 s m e t r =
-    let l = four-times binary32 (m * up e) (down e) (size-lt binary32 s m e r) in
-    together binary32 s m e r (whole-is binary32 s m e t l) (quarters.quarter binary32 s m e t l)
-quarter-whole binary64 s m e t r =
-    let l = four-times binary64 (m * up e) (down e) (size-lt binary64 s m e r) in
-    together binary64 s m e r (whole-is binary64 s m e t l) (quarters.quarter binary64 s m e t l)
+  where
+    float : (f : Format) → T (fits f (fin s m e)) → T (inReach f (fin s m e))
+        → wholeQuarters f (fin s m e) ≡ ofInt f (signed s (nearest4 m e))
+    float binary32 t r = whole-is binary32 s m e t (four-times binary32 (m * up e) (down e) (size-lt binary32 s m e r))
+    float binary64 t r = whole-is binary64 s m e t (four-times binary64 (m * up e) (down e) (size-lt binary64 s m e r))
 
 pub at-one : AtOne
 unfolding ln lnBits32 lnBits64 exponent32 exponent64 reduced32 reduced64 coefficients32 coefficients64 horner minusTwice sqrt guessOf newtonStep corrected ofBits toBits mul add sub div neg lt ofInt round
