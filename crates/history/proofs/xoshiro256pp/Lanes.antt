@@ -6,9 +6,8 @@ use lib.ListN.{getD}
 use Rattle.base.specs.Iterate.{iterate}
 use Rattle.base.proofs.Iterate.{iterate-then}
 use Rattle.base.proofs.Table.{table-same, table-getD}
-use Rattle.xoshiro.specs.scalar.Claims.{aStep, aJump}
 use Rattle.xoshiro.specs.scalar.Xoshiro256pp.{State, output, step, steps, jumped, jumpPoly, jumps}
-use Rattle.xoshiro.proofs.scalar.Theorems.{runs-commute}
+use Rattle.xoshiro.proofs.scalar.Theorems.{steps-commute}
 use Rattle.xoshiro.specs.x8.Calls.{wordsOf, nextOf, blockJumps, movedBlocks}
 use Rattle.xoshiro.specs.x8.Lanes.{laneOf}
 use Rattle.xoshiro.specs.declared.x8.Xoshiro256ppX8.{Xoshiro256ppX8}
@@ -35,7 +34,7 @@ at-move n {s} {d} {j} {g} a =
     past : (b i : ℕ) → jumps b (steps d (jumps (j + i) s)) ≡ steps d (jumps (j + b + i) s)
     past b i =
         let e : j + i + b ≡ j + b + i = omega arith in
-        runs-commute aJump aStep b d (jumps (j + i) s)
+        steps-commute jumpPoly b d (jumps (j + i) s)
         ∙ ap (steps d) (sym (iterate-then (jumped jumpPoly) (j + i) b s) ∙ ap (λ (k : ℕ). jumps k s) e)
 
 -- ---- the words of a draw are the lanes' outputs
