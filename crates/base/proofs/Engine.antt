@@ -3,14 +3,14 @@ use mathlib.Core.Path.{_≡_, refl, sym, ap, _∙_}
 use mathlib.Core.List.{List, _++_}
 use Prim.Native.Nat.{ℕ, _+_, _*_, _/_, _%_, _<_, _≤_}
 use native.Mathlib.Omega.{arith}
-use lib.ListN.{length, getD, drop, length-drop}
-use lib.Seq.{ext-getD, getD-drop}
-use Rattle.base.specs.Engine.{Engine, wordsFrom, drawnWords, DrawnAt, drawOf, Drawn}
+use lib.ListN.{length, getD}
+use lib.Seq.{ext-getD}
+use Rattle.base.specs.Engine.{Engine, wordsFrom, drawnWords, DrawnAt, drawOf}
 use Rattle.base.specs.Iterate.{iterate}
 use Rattle.base.specs.Stored.{stored}
 use Rattle.base.specs.Table.{table}
 use Rattle.base.proofs.Iterate.{iterate-more}
-use Rattle.base.proofs.Stored.{stored-two, length-stored, stored-in, stored-after}
+use Rattle.base.proofs.Stored.{stored-two, stored-in}
 use Rattle.base.proofs.Table.{length-table, getD-table, table-append, table-same, table-getD}
 
 -- what the laws ask of an engine: a draw has eight words
@@ -22,9 +22,14 @@ pub none-drawn : {G : Type 0} {E : Engine G} {g : G} {l : List ℕ} {at m : ℕ}
 unfolding drawnWords stored table iterate
 none-drawn {G} {E} {g} {l} {at} e = rw e (record { writes = refl; count = refl; state = refl })
 
-pub drawn-as : {G : Type 0} {E : Engine G} {g g′ : G} {l l′ : List ℕ} {at m n draws : ℕ} → DrawnAt E g at m l l′ draws g′ → m ≡ n
-    → DrawnAt E g at n l l′ draws g′
-drawn-as D e = rw (← e) D
+pub drawn-as : {G : Type 0} {E : Engine G} {g g′ : G} {l l′ : List ℕ} {at m n draws draws′ : ℕ} → DrawnAt E g at m l l′ draws g′ → m ≡ n
+    → draws′ ≡ n → DrawnAt E g at n l l′ draws′ g′
+drawn-as {E = E} {g = g} {l = l} {at = at} D e d =
+    record {
+      writes = D .writes ∙ ap (λ (k : ℕ). stored l at (drawnWords E k g)) e;
+      count = d;
+      state = D .state ∙ ap (λ (k : ℕ). iterate (E .next) k g) e;
+    }
 
 -- ---- draws stored one after another
 module _ {G : Type 0} (E : Engine G) (g : G) where
@@ -61,23 +66,16 @@ module _ {G : Type 0} {E : Engine G} {g : G} where
         state = er ∙ ap (E .next) (D .state) ∙ sym (iterate-more (E .next) m g);
       }
 
--- draws stored from the first place on: a buffer holds them, however they are counted
-pub held-at-first : {G : Type 0} {E : Engine G} {g g′ : G} {m n draws draws′ : ℕ} {buf after : List ℕ} → EachEight E
-    → DrawnAt E g 0 n buf after draws g′ → n ≡ m → draws′ ≡ m → m * 8 ≤ length buf → Drawn E g m buf after draws′ g′
+-- draws stored from the first place on: a buffer that has room for them holds them
+pub held-at-first : {G : Type 0} {E : Engine G} {g g′ : G} {m draws : ℕ} {buf after : List ℕ} → EachEight E → DrawnAt E g 0 m buf after draws g′
+    → m * 8 ≤ length buf → (i : ℕ) → i < m → drawOf after i ≡ wordsFrom E g i
 unfolding drawOf drawnWords
-held-at-first {G} {E} {g} {g′} {m} {n} {draws} {draws′} {buf} {after} eights Dn e ed room =
-    record {
-      held = λ i h.
-          ext-getD 0 (table 8 (λ r. getD after (i * 8 + r) 0)) (wordsFrom E g i) (length-table 8 _ ∙ sym (eights (iterate (E .next) i g)))
-          (λ r b. let b′ : r < 8 = omega (arith, length-table 8 (λ s. getD after (i * 8 + s) 0)) in getD-table 8 (λ s. getD after (i * 8 + s) 0) r 0 b′ ∙ place i r h b′);
-      kept = ext-getD 0 (drop (m * 8) after) (drop (m * 8) buf) (length-drop (m * 8) after ∙ omega (arith, same) ∙ sym (length-drop (m * 8) buf))
-          (λ k b. getD-drop (m * 8) after k 0 ∙ past k ∙ sym (getD-drop (m * 8) buf k 0));
-      count = ed;
-      state = D .state;
-    }
+held-at-first {G} {E} {g} {g′} {m} {draws} {buf} {after} eights D room i h =
+    ext-getD 0 (table 8 A) (wordsFrom E g i) (length-table 8 A ∙ sym (eights (iterate (E .next) i g)))
+    (λ r b. let b′ : r < 8 = omega (arith, length-table 8 A) in getD-table 8 A r 0 b′ ∙ place r b′)
   where
-    D : DrawnAt E g 0 m buf after draws g′
-    D = drawn-as Dn e
+    A : ℕ → ℕ
+    A r = getD after (i * 8 + r) 0
 
     W : ℕ → ℕ
     W k = getD (wordsFrom E g (k / 8)) (k % 8) 0
@@ -85,11 +83,8 @@ held-at-first {G} {E} {g} {g′} {m} {n} {draws} {draws′} {buf} {after} eights
     v : List ℕ
     v = table (m * 8) W
 
-    same : length after ≡ length buf
-    same = ap length (D .writes) ∙ length-stored buf 0 v
-
-    place : (i r : ℕ) → i < m → r < 8 → getD after (i * 8 + r) 0 ≡ getD (wordsFrom E g i) r 0
-    place i r h b =
+    place : (r : ℕ) → r < 8 → getD after (i * 8 + r) 0 ≡ getD (wordsFrom E g i) r 0
+    place r b =
         let e : (i * 8 + r) / 8 ≡ i = omega arith in
         let e′ : (i * 8 + r) % 8 ≡ r = omega arith in
         let z : i * 8 + r ≡ 0 + (i * 8 + r) = omega arith in
@@ -97,7 +92,3 @@ held-at-first {G} {E} {g} {g′} {m} {n} {draws} {draws′} {buf} {after} eights
         ∙ stored-in v buf 0 (i * 8 + r) 0 (omega (arith, length-table (m * 8) W)) (omega arith)
         ∙ getD-table (m * 8) W (i * 8 + r) 0 (omega arith)
         ∙ λ k. getD (wordsFrom E g (e k)) (e′ k) 0
-
-    past : (k : ℕ) → getD after (m * 8 + k) 0 ≡ getD buf (m * 8 + k) 0
-    past k =
-        ap (λ (l : List ℕ). getD l (m * 8 + k) 0) (D .writes) ∙ stored-after v buf 0 (m * 8 + k) 0 (omega (arith, length-table (m * 8) W))

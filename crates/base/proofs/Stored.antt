@@ -7,8 +7,8 @@ use native.Mathlib.Nat.{add-zero, zero-add, not-suc-le-zero, le-of-suc-le-suc}
 use native.Mathlib.Decide.{decLe}
 use native.Mathlib.Numerals.{add-one}
 use native.Mathlib.Omega.{arith}
-use lib.ListN.{length, take, getD, set, length-set}
-use lib.Seq.{sets, length-sets, set-out, take-all, take-suc, length-take-le, ext-getD, getD-set-same, getD-set-other}
+use lib.ListN.{length, take, drop, getD, set, length-set}
+use lib.Seq.{sets, sets-eq, length-sets, set-out, take-all, take-suc, length-take-le, ext-getD, getD-set-same, getD-set-other}
 use Rattle.base.specs.Stored.{stored}
 
 module _ {A : Type 0} where
@@ -77,6 +77,11 @@ module _ {A : Type 0} where
   stored-whole l (a ∷ v) h =
       let w : List A = a ∷ v in
       ext-getD a (sets l 0 w) w (length-sets l 0 w ∙ h) (λ k b. rw zero-add at (sets-in w l 0 k a (omega (arith, length-sets l 0 w)) (omega (arith, length-sets l 0 w))))
+
+  -- elements stored from the first place on stand before what was behind them
+  pub stored-first : (l v : List A) → length v ≤ length l → stored l 0 v ≡ v ++ drop (length v) l
+  unfolding stored
+  stored-first l v h = sets-eq v l 0 (omega arith) ∙ ap (λ (k : ℕ). v ++ drop k l) (zero-add (length v))
 
   -- two runs of stores, one after the other
   pub stored-two : (l : List A) (at : ℕ) (xs ys : List A) {m out : List A} {at′ : ℕ} → m ≡ stored l at xs → at + length xs ≡ at′ → out ≡ stored m at′ ys → out ≡ stored l at (xs ++ ys)

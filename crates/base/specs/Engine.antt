@@ -1,8 +1,8 @@
 -- An engine of random words, and what its draws hand out.
 use mathlib.Core.List.{List}
 use mathlib.Core.Path.{_≡_}
-use Prim.Native.Nat.{ℕ, _+_, _*_, _/_, _%_, _<_}
-use lib.ListN.{getD, drop}
+use Prim.Native.Nat.{ℕ, _+_, _*_, _/_, _%_}
+use lib.ListN.{getD}
 use Rattle.base.specs.Iterate.{iterate}
 use Rattle.base.specs.Stored.{stored}
 use Rattle.base.specs.Table.{table}
@@ -29,11 +29,3 @@ pub record DrawnAt {G : Type 0} (E : Engine G) (g : G) (at m : ℕ) (before afte
 -- draw i of a buffer of words: eight of them
 unfoldable pub drawOf : List ℕ → ℕ → List ℕ
 drawOf b i = table 8 (λ r. getD b (i * 8 + r) 0)
-
--- a buffer was `before` and is `after`: m draws from g on stand in its first places, and the places after them are as they were; g′ is the
--- generator after the draws
-pub record Drawn {G : Type 0} (E : Engine G) (g : G) (m : ℕ) (before after : List ℕ) (draws : ℕ) (g′ : G) : Type 0 where
-  pub held : (i : ℕ) → i < m → drawOf after i ≡ wordsFrom E g i
-  pub kept : drop (m * 8) after ≡ drop (m * 8) before
-  pub count : draws ≡ m
-  pub state : g′ ≡ iterate (E .next) m g

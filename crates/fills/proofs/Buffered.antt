@@ -1,40 +1,33 @@
 -- A fill by way of a buffer: words are drawn into the buffer by a fill of kind 1, the buffer is cut into draws, and the draws are made into
 -- groups. For any kind and engine. Assumes nothing.
 use mathlib.Core.Path.{_≡_, refl, sym, ap, _∙_}
-use mathlib.Core.List.{List, [], _∷_, _++_}
+use mathlib.Core.List.{List, _++_}
 use Prim.Native.Nat.{ℕ, zero, suc, _+_, _*_, _/_, _%_, _<_, _≤_}
 use native.Mathlib.Nat.{add-zero, mul-suc, suc-mul, zero-mul, mul-zero}
 use native.Mathlib.Numerals.{add-one}
 use native.Mathlib.Omega.{arith}
-use lib.ListN.{length, getD, take, drop, List·getD-append}
-use lib.Seq.{ext-getD, length-take-le}
-use Rattle.base.specs.Engine.{Engine, wordsFrom, drawOf, Drawn}
-use Rattle.base.proofs.Engine.{EachEight}
+use lib.ListN.{length, getD, take, drop}
+use lib.Seq.{length-take-le}
+use Rattle.base.specs.Engine.{Engine, wordsFrom, drawnWords, DrawnAt, drawOf}
+use Rattle.base.proofs.Engine.{held-at-first}
 use Rattle.base.specs.Iterate.{iterate}
 use Rattle.base.specs.Stored.{stored}
 use Rattle.base.specs.Table.{table}
 use Rattle.base.proofs.Iterate.{iterate-then}
-use Rattle.base.proofs.Stored.{length-stored}
-use Rattle.base.proofs.Table.{length-table, getD-table}
+use Rattle.base.proofs.Stored.{length-stored, stored-first}
+use Rattle.base.proofs.Table.{length-table, table-same}
 use Rattle.fills.specs.Fill.{Kind, element, Filled}
 use Rattle.fills.specs.Kinds.{u64s}
 use Rattle.fills.specs.Buffer.{storedGroups}
-use Rattle.fills.proofs.Filling.{Filling, more, same-place, filled-long}
+use Rattle.fills.proofs.Filling.{Filling, more, same-place}
 
-drop-past : {A : Type 0} (xs ys : List A) → drop (length xs) (xs ++ ys) ≡ ys
-drop-past [] ys = refl
-drop-past (x ∷ xs) ys = drop-past xs ys
-
--- a fill of kind 1 of the first n = m * 8 places of a buffer makes it hold m draws
-pub drawn-filled : {G : Type 0} {E : Engine G} {rng rng′ : G} {after : List ℕ} {draws : ℕ} (buf : List ℕ) (n m : ℕ) → EachEight E
-    → Filled E u64s rng (take n buf) after draws rng′ → n ≡ m * 8 → n ≤ length buf → Drawn E rng m buf (after ++ drop n buf) draws rng′
-unfolding drawOf
-drawn-filled {G} {E} {rng} {rng′} {after} {draws} buf n m eights F en hn =
+-- a fill of kind 1 of the first n = m * 8 places of a buffer stores m draws in it
+pub drawn-filled : {G : Type 0} {E : Engine G} {rng rng′ : G} {after : List ℕ} {draws : ℕ} (buf : List ℕ) (n m : ℕ)
+    → Filled E u64s rng (take n buf) after draws rng′ → n ≡ m * 8 → n ≤ length buf → DrawnAt E rng 0 m buf (after ++ drop n buf) draws rng′
+unfolding drawnWords
+drawn-filled {G} {E} {rng} {rng′} {after} {draws} buf n m F en hn =
     record {
-      held = λ i h.
-          ext-getD 0 (table 8 (λ r. getD (after ++ drop n buf) (i * 8 + r) 0)) (W i) (rows i ∙ sym (eights (iterate (E .next) i rng)))
-          (λ r b. let b′ : r < 8 = omega (arith, rows i) in getD-table 8 (λ s. getD (after ++ drop n buf) (i * 8 + s) 0) r 0 b′ ∙ place i r h b′);
-      kept = ap (λ (k : ℕ). drop k (after ++ drop n buf)) (sym long) ∙ drop-past after (drop n buf) ∙ ap (λ (k : ℕ). drop k buf) en;
+      writes = (λ i. words i ++ drop (size i) buf) ∙ sym (stored-first buf v (omega (arith, size)));
       count = made;
       state = F .state ∙ ap (λ (k : ℕ). iterate (E .next) k rng) made;
     }
@@ -42,33 +35,26 @@ drawn-filled {G} {E} {rng} {rng′} {after} {draws} buf n m eights F en hn =
     W : ℕ → List ℕ
     W m = wordsFrom E rng m
 
-    rows : (i : ℕ) → length (table 8 (λ r. getD (after ++ drop n buf) (i * 8 + r) 0)) ≡ 8
-    rows i = length-table 8 (λ r. getD (after ++ drop n buf) (i * 8 + r) 0)
+    v : List ℕ
+    v = table (m * 8) (λ k. getD (W (k / 8)) (k % 8) 0)
+
+    size : n ≡ length v
+    size = en ∙ sym (length-table (m * 8) _)
 
     len : length (take n buf) ≡ m * 8
     len = length-take-le n buf hn ∙ en
 
-    long : length after ≡ m * 8
-    long = filled-long F ∙ len
-
     made : draws ≡ m
     made = F .count ∙ omega (arith, len)
 
-    place : (i r : ℕ) → i < m → r < 8 → getD (after ++ drop n buf) (i * 8 + r) 0 ≡ getD (W i) r 0
-    place i r h b =
-        let inside : i * 8 + r < length (take n buf) = omega (arith, len) in
-        let e : 1 * ((i * 8 + r) / 8) + 0 ≡ i = omega arith in
-        let e′ : (i * 8 + r) % 8 ≡ r = omega arith in
-        List·getD-append after (drop n buf) 0 (i * 8 + r) (omega (arith, filled-long F))
-        ∙ ap (λ (l : List ℕ). getD l (i * 8 + r) 0) (F .writes)
-        ∙ getD-table (length (take n buf)) (element u64s W) (i * 8 + r) 0 inside
-        ∙ ap (λ (k : ℕ). getD (W k) ((i * 8 + r) % 8) 0) e
-        ∙ ap (λ (k : ℕ). getD (W i) k 0) e′
+    words : after ≡ v
+    words =
+        F .writes ∙ ap (λ (k : ℕ). table k (element u64s W)) len
+        ∙ table-same (m * 8) (element u64s W) _ (λ k h. let e : 1 * (k / 8) + 0 ≡ k / 8 = omega arith in ap (λ (q : ℕ). getD (W q) (k % 8) 0) e)
 
--- the same draws, counted otherwise
-pub drawn-same : {G : Type 0} {E : Engine G} {g g′ : G} {a b : List ℕ} {m n draws : ℕ} → Drawn E g m a b draws g′ → m ≡ n
-    → Drawn E g n a b draws g′
-drawn-same D e = rw (← e) D
+-- draws keep a buffer's length
+pub drawn-long : {G : Type 0} {E : Engine G} {g g′ : G} {at m : ℕ} {a b : List ℕ} {draws : ℕ} → DrawnAt E g at m a b draws g′ → length b ≡ length a
+drawn-long {E = E} {g} {at = at} {m} {a} D = ap length (D .writes) ∙ length-stored a at (drawnWords E m g)
 
 -- ---- q groups of a buffer, stored one after another
 module _ {G A : Type 0} {E : Engine G} {K : Kind A} {g : G} {old : List A} where
@@ -93,14 +79,14 @@ module _ {G A : Type 0} {E : Engine G} {K : Kind A} {g : G} {old : List A} where
       let er : iterate (E .next) d (iterate (E .next) (d * j) rng) ≡ iterate (E .next) (d * suc j) rng = sym (iterate-then (E .next) (d * j) d rng) ∙ ap (λ (n : ℕ). iterate (E .next) n rng) (sym ed) in
       rw (← er) (same-place Q ea eg)
 
-  -- one turn of a buffered fill: the buffer holds the draws of q groups, and they are stored
+  -- one turn of a buffered fill: the draws of q groups are drawn into a buffer that has room for them, and the groups are stored
   pub more-buffered : {out out′ : List A} {at draws dr m : ℕ} {rng rng′ : G} {a b : List ℕ} (q : ℕ) → Filling E K g old out at draws rng
-      → Drawn E rng m a b dr rng′ → m ≡ K .draws * q → at + q * K .places < length old + K .places → out′ ≡ storedGroups K b out at q
-      → Filling E K g old out′ (at + q * K .places) (draws + dr) rng′
-  more-buffered {out} {out′} {at} {draws} {dr} {m} {rng} {rng′} {a} {b} q F B em h eo =
+      → DrawnAt E rng 0 m a b dr rng′ → m * 8 ≤ length a → m ≡ K .draws * q → at + q * K .places < length old + K .places
+      → out′ ≡ storedGroups K b out at q → Filling E K g old out′ (at + q * K .places) (draws + dr) rng′
+  more-buffered {out} {out′} {at} {draws} {dr} {m} {rng} {rng′} {a} {b} q F B room em h eo =
       let ed : dr ≡ K .draws * q = B .count ∙ em in
       let er : rng′ ≡ iterate (E .next) (K .draws * q) rng = B .state ∙ ap (λ (n : ℕ). iterate (E .next) n rng) em in
-      rw (eo, ed, er) (more-groups b q F (λ i l. B .held i (omega (arith, em))) h)
+      rw (eo, ed, er) (more-groups b q F (λ i l. held-at-first (F .eights) B room i (omega (arith, em))) h)
 
 -- ---- the loop that stores a buffer's groups: j of q groups are stored
 pub record Grouping {A : Type 0} (K : Kind A) (b : List ℕ) (l : List A) (at q : ℕ) (out : List A) (j : ℕ) : Type 0 where

@@ -4,7 +4,7 @@ use philox::x8::Philox4x32X8;
 use slices::u64s;
 ghost use Prim.Native.Nat.{_*_, _≤_, min};
 ghost use lib.ListN.{length};
-ghost use Rattle.base.specs.Engine.{Drawn};
+ghost use Rattle.base.specs.Engine.{DrawnAt};
 ghost use Rattle.fills.specs.Fill.{Filled};
 ghost use Rattle.fills.specs.Kinds.{u64s};
 ghost use Rattle.philox.specs.x8.Machine.{engine};
@@ -60,7 +60,7 @@ pub fn fill_u64(g: Philox4x32X8, out: &mut [u64]) -> Fill
 // The words of `m` draws, in the first places of `b`. The places after them stay.
 fn fill_first(g: Philox4x32X8, b: &mut [u64], m: usize) -> Fill
     requires { ⌜ m * 8 ≤ length (now b) ⌝ }
-    ensures { λ r. ⌜ Drawn engine g m (now (b .entry)) (now (b .exit)) (r .draws) (r .rng) ⌝ }
+    ensures { λ r. ⌜ DrawnAt engine g 0 m (now (b .entry)) (now (b .exit)) (r .draws) (r .rng) ⌝ }
 {
     let n = m * 8;
     fill_u64(g, &mut b[..n])
@@ -69,7 +69,7 @@ fn fill_first(g: Philox4x32X8, b: &mut [u64], m: usize) -> Fill
 // The words of `m` draws, at most 16, in a buffer. The other kinds make their groups of it: drawing ahead is faster than turning each draw
 // into elements at once.
 pub fn fill_buffer(g: Philox4x32X8, b: &mut [u64; 128], m: usize) -> Fill
-    ensures { λ r. ⌜ Drawn engine g (min 16 m) (now (b .entry)) (now (b .exit)) (r .draws) (r .rng) ⌝ }
+    ensures { λ r. ⌜ DrawnAt engine g 0 (min 16 m) (now (b .entry)) (now (b .exit)) (r .draws) (r .rng) ⌝ }
 {
     fill_first(g, b, words::room(16, 0, m))
 }

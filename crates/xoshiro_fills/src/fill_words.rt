@@ -4,7 +4,7 @@ use slices::u64s;
 use xoshiro::draws;
 use xoshiro::x8::Xoshiro256ppX8;
 ghost use Prim.Native.Nat.{min};
-ghost use Rattle.base.specs.Engine.{Drawn};
+ghost use Rattle.base.specs.Engine.{DrawnAt};
 ghost use Rattle.fills.specs.Fill.{Filled};
 ghost use Rattle.fills.specs.Kinds.{u64s};
 ghost use Rattle.xoshiro.specs.x8.Calls.{engine};
@@ -35,7 +35,7 @@ pub fn fill_u64(g: Xoshiro256ppX8, out: &mut [u64]) -> Fill
 
 // The words of `m` draws, at most 16, in a buffer. The normals make their groups of it: many lanes at a time are faster than eight.
 pub fn fill_buffer(g: Xoshiro256ppX8, b: &mut [u64; 128], m: usize) -> Fill
-    ensures { λ r. ⌜ Drawn engine g (min 16 m) (now (b .entry)) (now (b .exit)) (r .draws) (r .rng) ⌝ }
+    ensures { λ r. ⌜ DrawnAt engine g 0 (min 16 m) (now (b .entry)) (now (b .exit)) (r .draws) (r .rng) ⌝ }
 {
     let n = words::room(16, 0, m);
     let rng = draws::draw_many(g, b, n);

@@ -134,9 +134,9 @@ module _ (g : Philox4x32X8) (e : g .waiting ≡ false) where
       → _≡_ {A = Draw} (record { words = lo; rng = record { key = g .key; stream = g .stream; counter = n; waiting = true; pending = hi } }) (drawn g)
   unfolding drawn holding iterate upperAt
   both-drawn {n = n} long D el eh =
-      let B = held-at-first eight-words D refl refl (omega arith) in
-      let lo = el ∙ B .held 0 (omega arith) ∙ sym same-words in
-      let hi = eh ∙ B .held 1 (omega arith) ∙ second-words (g .key) (g .stream) (g .counter) in
+      let held = held-at-first eight-words D (omega arith) in
+      let lo = el ∙ held 0 (omega arith) ∙ sym same-words in
+      let hi = eh ∙ held 1 (omega arith) ∙ second-words (g .key) (g .stream) (g .counter) in
       let en : n ≡ past (g .counter) = ap (λ (x : Philox4x32X8). x .counter) (D .state ∙ second-next (g .key) (g .stream) (g .counter)) in
       let made : _≡_ {A = Philox4x32X8} (record { key = g .key; stream = g .stream; counter = n; waiting = true; pending = _ }) (nextOf g) = (λ i. record { key = g .key; stream = g .stream; counter = en i; waiting = true; pending = hi i }) ∙ sym (next-fresh g e) in
       λ i. record { words = lo i; rng = made i }

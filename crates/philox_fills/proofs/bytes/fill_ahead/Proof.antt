@@ -1,6 +1,6 @@
 -- `philox_fills::bytes::fill_ahead` meets its contract.
 use Prim.Native.Nat.{ℕ, _+_, _-_, min}
-use Rattle.fills.proofs.Buffered.{more-buffered}
+use Rattle.fills.proofs.Buffered.{drawn-long, more-buffered}
 use Rattle.fills.proofs.Bytes.{row-sound}
 use Rattle.fills.proofs.Filling.{Filling, start, same-place, finish}
 use Rattle.fills.specs.Buffer.{bytesKind, groupsAhead}
@@ -16,7 +16,7 @@ use Rattle.philox_fills.proofs.bytes.fill_ahead.Statement.{statement}
 use Rattle.philox_fills.proofs.bytes.fill_ahead.Tie as tie
 
 abbrev Inv-loop : tie.InvT-loop
-Inv-loop kind out₀ rng₀ draws₀ at₀ buf₀ out rng draws at buf = Filling engine (bytesKind (kindAt kind .kind)) rng₀ out₀ out at draws rng
+Inv-loop kind out₀ rng₀ draws₀ at₀ buf₀ out rng draws at buf = (length buf ≡ 128) × Filling engine (bytesKind (kindAt kind .kind)) rng₀ out₀ out at draws rng
 
 abbrev μ-loop : tie.MeasureT-loop
 μ-loop kind out₀ rng₀ draws₀ at₀ buf₀ out rng draws at buf = length out₀ - at
@@ -31,8 +31,9 @@ loop-again c =
     let n : ℕ = length (l .loop .out) - l .loop .at in
     let a = ahead (l .before .before .args .kind) n (d .draws-ahead .result) (d .draws-ahead .ensures .0) in
     let few : min 16 (d .draws-ahead .result) ≡ d .draws-ahead .result = omega (arith, a .few) in
-    same-place (more-buffered (groupsAhead K n) (l .loop .inv) (f .fill-buffer .ensures) (few ∙ d .draws-ahead .ensures .0) (omega (arith, a .room, l .loop .inv .same)) (m .map-bytes .ensures))
-    (ap (λ (x : ℕ). l .loop .at + x) (a .bytes)) refl
+    let D = f .fill-buffer .ensures in
+    let F = more-buffered (groupsAhead K n) (l .loop .inv .1) D (omega (arith, l .loop .inv .0)) (few ∙ d .draws-ahead .ensures .0) (omega (arith, a .room, l .loop .inv .1 .same)) (m .map-bytes .ensures) in
+    (drawn-long D ∙ l .loop .inv .0, same-place F (ap (λ (x : ℕ). l .loop .at + x) (a .bytes)) refl)
 
 pub fill-ahead-spec : {M : Type 1} → statement M
-fill-ahead-spec = tie.close (tie.spec Inv-loop μ-loop (λ c. start eight-words (row-sound _)) (λ c κs. search needs) (λ c κs. search needs) (λ c κs. search needs) (λ c. search needs) (λ c. search needs) (λ c. search needs) (λ c. omega (arith, c .before .before .before .before .before .before .before .before .before .draws-ahead .ensures .3 (search needs))) loop-again (λ c. search needs) (λ c. finish (c .before .loop .inv) (search needs)))
+fill-ahead-spec = tie.close (tie.spec Inv-loop μ-loop (λ c. (refl, start eight-words (row-sound _))) (λ c κs. search needs) (λ c κs. search needs) (λ c κs. search needs) (λ c. search needs) (λ c. search needs) (λ c. search needs) (λ c. omega (arith, c .before .before .before .before .before .before .before .before .before .draws-ahead .ensures .3 (search needs))) loop-again (λ c. search needs) (λ c. finish (c .before .loop .inv .1) (search needs)))

@@ -1,11 +1,12 @@
 -- `philox_fills::fill_words::fill_buffer` meets its contract.
-use Rattle.fills.proofs.Buffered.{drawn-same}
+use Rattle.base.proofs.Engine.{drawn-as}
 use borrow.Author.Needs.{needs}
+use mathlib.Core.Path.{_∙_}
 use Rattle.philox_fills.proofs.fill_words.fill_buffer.Statement.{statement}
 use Rattle.philox_fills.proofs.fill_words.fill_buffer.Tie as tie
 
 returns : tie.Need-returns
-returns c = drawn-same (c .fill-first .ensures) (c .before .room .ensures)
+returns c = drawn-as (c .fill-first .ensures) (c .before .room .ensures) (c .fill-first .ensures .count ∙ c .before .room .ensures)
 
 pub fill-buffer-spec : {M : Type 1} → statement M
 fill-buffer-spec = tie.close (tie.spec (λ c κs. search needs) (λ c κs. search needs) returns)

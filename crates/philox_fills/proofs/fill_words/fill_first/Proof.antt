@@ -1,7 +1,6 @@
 -- `philox_fills::fill_words::fill_first` meets its contract.
 use Prim.Native.Nat.{_*_}
 use Rattle.fills.proofs.Buffered.{drawn-filled}
-use Rattle.philox.proofs.x8.Theorems.{eight-words}
 use borrow.Author.Needs.{needs}
 use lib.Seq.{length-take-le}
 use mathlib.Core.Path.{refl, sym}
@@ -12,7 +11,7 @@ returns : tie.Need-returns
 returns c =
     let f = c .before .before in
     let a = f .before .before .before .args in
-    drawn-filled (a .b .now) (a .m * 8) (a .m) eight-words (f .fill-u64 .ensures) refl (search needs)
+    drawn-filled (a .b .now) (a .m * 8) (a .m) (f .fill-u64 .ensures) refl (search needs)
 
 pub fill-first-spec : {M : Type 1} → statement M
 fill-first-spec = tie.close (tie.spec (λ c. search needs) (λ c. search needs) (λ c. sym (length-take-le _ _ (search needs))) (λ c κs. search needs) (λ c. search needs) returns)
