@@ -1,3 +1,5 @@
+pub mod Contracts
+pub mod Draws
 pub mod xoshiro256pp
 pub mod philox4x32
 pub mod host

@@ -1,3 +1,4 @@
 pub mod Answers
 pub mod Xoshiro
 pub mod Philox
+pub mod Shipped

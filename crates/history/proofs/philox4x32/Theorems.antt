@@ -1,4 +1,4 @@
--- The claims of specs/philox4x32/History.antt. Assumes nothing.
+-- The claims of specs/philox4x32. Assumes nothing.
 use mathlib.Core.List.{List, _∷_}
 use mathlib.Core.Path.{_≡_, refl, sym, ap, ap₂, _∙_}
 use Prim.Native.Nat.{ℕ, zero, suc, _+_}
@@ -12,9 +12,11 @@ use Rattle.philox.specs.x8.Machine.{wordsOf, nextOf, drawn, grouped, sought}
 use Rattle.philox.specs.declared.x8.Blocks.{Blocks}
 use Rattle.philox.specs.declared.x8.Draw.{Draw}
 use Rattle.philox.specs.declared.x8.Philox4x32X8.{Philox4x32X8}
-use Rattle.history.specs.philox4x32.Calls.{Call, draw, group, seek, fill, bytes, Step, rngOf, rngAfter, Run}
+use Rattle.history.specs.philox4x32.Calls.{Call, draw, group, seek, fill, bytes, many, Step, rngOf, rngAfter, Run}
 use Rattle.history.specs.philox4x32.History.{Tally, start, oneDraw, tallyAfter, tally, reportedAfter}
 use Rattle.history.specs.philox4x32.History.{reported, wordsAt, Right, AllRight, DrawsAddUp, DrawsCount}
+use Rattle.history.specs.philox4x32.Shipped.{PhiloxShips}
+use Rattle.history.proofs.Draws.{right-draws}
 use Rattle.history.proofs.philox4x32.Tallied.{tallied, tallied-start, tallied-words, tallied-draw}
 use Rattle.history.proofs.philox4x32.Tallied.{tallied-draws, tallied-group, tallied-seek}
 
@@ -43,6 +45,7 @@ module _ (s₀ : Philox4x32X8) (t : Tally) {s : Philox4x32X8} (e : s ≡ tallied
   stands (seek n u64 r) h = h ∙ ap (λ (x : Philox4x32X8). sought x n) e ∙ tallied-seek s₀ t n u64
   stands (fill K before after r) h = h .state ∙ drawn-on (r .draws) _ (h .count)
   stands (bytes k before after r) h = h .state ∙ drawn-on (r .draws) _ (draws-made h)
+  stands (many at m before after draws rng) h = h .state ∙ drawn-on m m refl
 
   right : (c : Call) → Step s c → Right s₀ t s c
   unfolding drawn grouped sought tallied iterate
@@ -58,6 +61,7 @@ module _ (s₀ : Philox4x32X8) (t : Tally) {s : Philox4x32X8} (e : s ≡ tallied
   right (seek n u64 r) h = ap (λ (x : Philox4x32X8). x .counter) h
   right (fill K before after r) h = right-fill _ drawn-words h
   right (bytes k before after r) h = right-bytes h _ drawn-words
+  right (many at m before after draws rng) h = right-draws _ drawn-words h
 
   -- what the call reported is what is counted, where m were reported before it
   counts : {m : ℕ} (c : Call) → Step s c → m ≡ t .d → reportedAfter m c ≡ tallyAfter t c .d
@@ -70,6 +74,7 @@ module _ (s₀ : Philox4x32X8) (t : Tally) {s : Philox4x32X8} (e : s ≡ tallied
     where
       counted : (l n : ℕ) → l ≡ n → m + l ≡ iterate oneDraw n t .d
       counted l n e′ = omega (arith, q, e′, draws-count n t .0)
+  counts (many at m before after draws rng) h q = omega (arith, q, h .count, draws-count m t .0)
 
 -- ---- a whole list
 record Whole (s₀ : Philox4x32X8) (calls : List Call) : Type 0 where
@@ -101,4 +106,24 @@ draws-add-up seed stream s₀ calls e r =
       waits = ap (λ (s : Philox4x32X8). s .waiting) (w .rng);
       pending = ap (λ (s : Philox4x32X8). s .pending) (w .rng);
       outputs = w .outputs;
+    }
+
+-- ---- each contract is its step, word for word
+pub philox-ships : PhiloxShips
+philox-ships =
+    record {
+      new = λ κs a r e. (refl, refl);
+      from-seed = λ κs a r e. (refl, refl);
+      next-u64x8 = λ κs a r e. (refl, refl);
+      draws-draw = λ κs a r e. (refl, refl);
+      blocks = λ κs a r e. (refl, refl);
+      seeks = λ κs a r e u64. (refl, refl);
+      fill-u64 = λ κs a r e. (refl, refl);
+      fill-u32 = λ κs a r e. (refl, refl);
+      fill-f32 = λ κs a r e. (refl, refl);
+      fill-f64 = λ κs a r e. (refl, refl);
+      fill-normal-f32 = λ κs a r e. (refl, refl);
+      fill-normal-f64 = λ κs a r e. (refl, refl);
+      fill-bytes = λ κs a r e. (refl, refl);
+      draw-many = λ κs a r e. (refl, refl);
     }

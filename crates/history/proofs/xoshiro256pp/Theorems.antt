@@ -1,4 +1,4 @@
--- The claim of specs/xoshiro256pp/History.antt. Assumes nothing.
+-- The claims of specs/xoshiro256pp. Assumes nothing.
 use mathlib.Core.List.{List, [], _∷_}
 use mathlib.Core.Path.{_≡_, refl, sym, ap, _∙_}
 use Prim.Native.Nat.{ℕ, _+_}
@@ -12,9 +12,11 @@ use Rattle.xoshiro.specs.x8.Calls.{drawn, blockJumps, placed, movedBlocks}
 use Rattle.xoshiro.specs.declared.x8.Placed.{Placed}
 use Rattle.xoshiro.specs.declared.x8.Xoshiro256ppX8.{Xoshiro256ppX8}
 use Rattle.xoshiro.proofs.x8.Theorems.{lanes-start}
-use Rattle.history.specs.xoshiro256pp.Calls.{Call, draw, fill, bytes, move, Step, rngOf, rngAfter}
+use Rattle.history.specs.xoshiro256pp.Calls.{Call, draw, fill, bytes, move, many, Step, rngOf, rngAfter}
 use Rattle.history.specs.xoshiro256pp.History.{drawsReported, jumpsReported, drawsCounted, jumpsCounted, D}
 use Rattle.history.specs.xoshiro256pp.History.{J, Right, History, DrawsAddUp}
+use Rattle.history.specs.xoshiro256pp.Shipped.{XoshiroShips}
+use Rattle.history.proofs.Draws.{right-draws}
 use Rattle.history.proofs.xoshiro256pp.Lanes.{At, at-same, at-draws, at-move, words-at}
 
 -- one call: it reports what is counted, what it handed out is right, and the lanes stand where they should
@@ -54,6 +56,13 @@ one {d = d} a (move n r) h =
       right = ap (λ x. x .jumps) h;
       at = at-same (at-move n a) (sym (add-zero d)) refl (ap (λ x. x .rng) h);
     }
+one {j = j} a (many at m before after draws rng) h =
+    record {
+      draws = h .count;
+      jumps = refl;
+      right = right-draws _ (λ i. words-at (at-draws i a)) h;
+      at = at-same (at-draws m a) refl (sym (add-zero j)) (h .state);
+    }
 
 pub draws-add-up : DrawsAddUp
 unfolding placed iterate
@@ -75,3 +84,21 @@ draws-add-up seed b p calls e r = along r (History seed b p) begun more
           lanes = at .lane;
           outputs = (o .right, w .outputs);
         }
+
+-- ---- each contract is its step, word for word
+pub xoshiro-ships : XoshiroShips
+xoshiro-ships =
+    record {
+      from-seed = λ κs a r e. (refl, refl);
+      from-seed-block = λ κs a r e. (refl, refl);
+      next-u64x8 = λ κs a r e. (refl, refl);
+      jump-blocks = λ κs a r e. (refl, refl);
+      fill-u64 = λ κs a r e. (refl, refl);
+      fill-u32 = λ κs a r e. (refl, refl);
+      fill-f32 = λ κs a r e. (refl, refl);
+      fill-f64 = λ κs a r e. (refl, refl);
+      fill-normal-f32 = λ κs a r e. (refl, refl);
+      fill-normal-f64 = λ κs a r e. (refl, refl);
+      fill-bytes = λ κs a r e. (refl, refl);
+      draw-many = λ κs a r e. (refl, refl);
+    }

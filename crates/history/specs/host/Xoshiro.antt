@@ -24,7 +24,7 @@ pub data Call : Type 0 where
   fill : (k : ℕ) (before after : List ℕ) (answer : ℤ) (form : List ℕ) → Call
   move : (n before after : ℕ) (answer : ℤ) (form : List ℕ) → Call
 
--- what the function promises of the call on the form s: its `ensures`, word for word (proofs/host/Bridge.antt)
+-- what the function promises of the call on the form s: its `ensures`, word for word (specs/host/Shipped.antt)
 abbrev pub Step : List ℕ → Call → Type 0
 Step s (fill k before after answer form) = Filled s k before answer form after
 Step s (move n before after answer form) = JumpedBlocks n s before answer form after

@@ -14,34 +14,40 @@ use Rattle.xoshiro.specs.x8.Lanes.{laneOf}
 use Rattle.xoshiro.specs.x8.Calls.{blockJumps, placed}
 use Rattle.xoshiro.specs.declared.x8.Placed.{Placed}
 use Rattle.xoshiro.specs.declared.x8.Xoshiro256ppX8.{Xoshiro256ppX8}
-use Rattle.history.specs.xoshiro256pp.Calls.{Call, draw, fill, bytes, move, rngAfter, Run}
+use Rattle.history.specs.Draws.{RightDraws}
+use Rattle.history.specs.xoshiro256pp.Calls.{Call, draw, fill, bytes, move, many, rngAfter, Run}
 
--- ---- what the calls reported: an accepted fill the draws that it returned, a single draw 1, a block move the jumps that it returned
+-- ---- what the calls reported: an accepted fill the draws that it returned, as do many draws at once, a single draw 1, a block move the jumps
+-- that it returned
 abbrev pub drawsReported : Call → ℕ
 drawsReported (draw r) = 1
 drawsReported (fill K before after r) = r .draws
 drawsReported (bytes k before after r) = unless (r .refusal) (r .draws) 0
 drawsReported (move n r) = 0
+drawsReported (many at m before after draws rng) = draws
 
 abbrev pub jumpsReported : Call → ℕ
 jumpsReported (draw r) = 0
 jumpsReported (fill K before after r) = 0
 jumpsReported (bytes k before after r) = 0
 jumpsReported (move n r) = r .jumps
+jumpsReported (many at m before after draws rng) = 0
 
--- ---- D and J, whole numbers, never reduced: the table's draws for an accepted fill and 1 for a single draw; 8 n modulo 2 ^ 64 for each
--- block move, after the constructor's 8 b modulo 2 ^ 64
+-- ---- D and J, whole numbers, never reduced: the table's draws for an accepted fill, m for m draws at once and 1 for a single draw; 8 n modulo
+-- 2 ^ 64 for each block move, after the constructor's 8 b modulo 2 ^ 64
 abbrev pub drawsCounted : Call → ℕ
 drawsCounted (draw r) = 1
 drawsCounted (fill K before after r) = drawsFor K (length before)
 drawsCounted (bytes k before after r) = unless (refusalOf k (length before)) (bytesDraws k (length before)) 0
 drawsCounted (move n r) = 0
+drawsCounted (many at m before after draws rng) = m
 
 abbrev pub jumpsCounted : Call → ℕ
 jumpsCounted (draw r) = 0
 jumpsCounted (fill K before after r) = 0
 jumpsCounted (bytes k before after r) = 0
 jumpsCounted (move n r) = blockJumps n
+jumpsCounted (many at m before after draws rng) = 0
 
 abbrev pub D : List Call → ℕ
 D calls = total drawsCounted calls
@@ -54,12 +60,14 @@ J b calls = blockJumps b + total jumpsCounted calls
 unfoldable pub wordsAt : State → ℕ → ℕ → List ℕ
 wordsAt s d j = table 8 (λ i. output (steps d (jumps (j + i) s)))
 
--- what a call on the generator g handed out is right, where D and J before it are d and j; draw m of a fill has m more in its D
+-- what a call on the generator g handed out is right, where D and J before it are d and j; draw m of a fill, or of many draws at once, has m
+-- more in its D
 abbrev pub Right : State → ℕ → ℕ → Xoshiro256ppX8 → Call → Type 0
 Right s d j g (draw r) = r .words ≡ wordsAt s d j
 Right s d j g (fill K before after r) = RightFill (λ m. wordsAt s (d + m) j) K before after (r .draws)
 Right s d j g (bytes k before after r) = RightBytes (λ m. wordsAt s (d + m) j) k before after g (r .refusal) (r .draws) (r .rng)
 Right s d j g (move n r) = r .jumps ≡ blockJumps n
+Right s d j g (many at m before after draws rng) = RightDraws (λ i. wordsAt s (d + i) j) at m before after draws
 
 abbrev pub AllRight : ℕ → ℕ → Xoshiro256ppX8 → List Call → Type 0
 AllRight seed b g₀ = Each (λ calls c. Right (seeded seed) (D calls) (J b calls) (rngAfter g₀ calls) c)

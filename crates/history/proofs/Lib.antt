@@ -1,0 +1,2 @@
+-- What many draws at once hand out.
+pub mod Draws
