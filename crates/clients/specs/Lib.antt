@@ -1,0 +1,2 @@
+pub mod philox4x32
+pub mod xoshiro256pp
