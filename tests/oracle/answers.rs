@@ -1,4 +1,6 @@
 //! Writes the Rust's answers for the calls that crates/vectors makes, in the same order and layout.
+mod forms;
+use forms::{filled, KINDS};
 use tpt_simd_rng::{Philox4x32X8, Rng8, SplitMix64, Xoshiro256pp, Xoshiro256ppX8};
 
 fn words4(s: [u64; 4]) {
@@ -73,6 +75,38 @@ fn machine(seed: u64, stream: u64, calls: u32) {
     }
 }
 
+/// The 64-bit FNV-1a digest, of numbers in the place of bytes.
+fn digest(numbers: impl Iterator<Item = u64>) -> u64 {
+    numbers.fold(0xcbf2_9ce4_8422_2325, |sum, x| (sum ^ x).wrapping_mul(0x0100_0000_01b3))
+}
+
+/// The elements as patterns, from their little-endian bytes.
+fn patterns(out: &[u8], width: usize) -> impl Iterator<Item = u64> + '_ {
+    out.chunks(width).map(|element| element.iter().rev().fold(0, |x, byte| x << 8 | u64::from(*byte)))
+}
+
+/// Fills of every kind, typed and then by bytes, and the draw after them.
+fn fills<R: Rng8>(mut rng: R) {
+    for n in [21, 1100] {
+        for (kind, row) in (1..).zip(&KINDS) {
+            let (draws, out) = filled(&mut rng, kind, n);
+            println!("{draws}");
+            if n < 64 {
+                patterns(&out, row.width).for_each(|x| println!("{x:0digits$x}", digits = 2 * row.width));
+            }
+            println!("{:016x}", digest(patterns(&out, row.width)));
+        }
+    }
+    for (kind, row) in (1..).zip(&KINDS) {
+        for bytes in [168, 8800] {
+            let (draws, out) = filled(&mut rng, kind, bytes / row.width);
+            println!("{draws}");
+            println!("{:016x}", digest(patterns(&out, 1)));
+        }
+    }
+    println!("{:016x}", folded(rng.next_u64x8()));
+}
+
 fn main() {
     println!("Xoshiro256pp");
     for seed in [0, 1, 42, 0x9e37_79b9_7f4a_7c15, u64::MAX] {
@@ -87,4 +121,10 @@ fn main() {
     machine(42, 0, 200);
     machine(0x0123_4567_89ab_cdef, 7, 200);
     machine(u64::MAX, u64::MAX, 200);
+    println!("Xoshiro256ppX8 fills");
+    fills(Xoshiro256ppX8::from_seed_block(0x0123_4567_89ab_cdef, 3));
+    println!("Philox4x32X8 fills");
+    let mut rng = Philox4x32X8::new(0x0123_4567_89ab_cdef, 7);
+    rng.seek(0xffff_ffff_ffff_fe00);
+    fills(rng);
 }

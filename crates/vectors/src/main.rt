@@ -1,5 +1,7 @@
 // Writes what the engines hand out. The file `stdout` beside src/ holds what it must write: the published vectors, the scope
 // document's refusal numbers, and the answers of the Rust (tests/oracle says how they were made).
+mod filled;
+
 use libc::STDOUT_FILENO;
 use philox::block;
 use philox::x8::Philox4x32X8;
@@ -95,7 +97,69 @@ fn published() {
     );
 }
 
-// The refusal numbers of the scope document: a zero state, a lane past the last, a zero lane.
+// The published vectors again, on the code that fills are made of. From lanes that are all (1, 2, 3, 4) each draw has an output eight times:
+// the one of draw j is read from lane j modulo 8.
+fn ten_outputs(words: &[u64; 128]) {
+    for j in 0..10 {
+        decimal(words[j * 8 + j % 8]);
+    }
+}
+
+// In a fill of words, and in the buffer that fills of normals are made of.
+fn published_xoshiro_filled() {
+    title(b"xoshiro256++ published, in fills");
+    let lane = Xoshiro256pp::from_state([1, 2, 3, 4]).rng;
+    let rng = Xoshiro256ppX8::from_lanes([lane; 8]).rng;
+    let mut words = [0u64; 128];
+    xoshiro_fills::typed::fill_u64(rng, &mut words);
+    ten_outputs(&words);
+    let mut buffer = [0u64; 128];
+    xoshiro_fills::typed::fill_buffer(rng, &mut buffer, 16);
+    ten_outputs(&buffer);
+}
+
+// The halves of a word of a fill, low half first.
+fn put_halves(words: &[u64], place: usize) {
+    if place < words.len() {
+        hex_half(words::low(words[place]));
+        hex_half(words::high(words[place]));
+    }
+}
+
+// The first of eight blocks: its lower word is in one draw, its upper word in the next. In a fill of both draws, which are made at once, and
+// in two fills of one draw each.
+fn published_philox_filled(block: u64, stream: u64, key: u64) {
+    let rng = Philox4x32X8::new(key, stream).seek(block);
+    let mut both = [0u64; 16];
+    philox_fills::typed::fill_u64(rng, &mut both);
+    put_halves(&both, 0);
+    put_halves(&both, 8);
+    let mut lower = [0u64; 8];
+    let f = philox_fills::typed::fill_u64(rng, &mut lower);
+    put_halves(&lower, 0);
+    let mut upper = [0u64; 8];
+    philox_fills::typed::fill_u64(f.rng, &mut upper);
+    put_halves(&upper, 0);
+}
+
+fn published_filled() {
+    published_xoshiro_filled();
+    title(b"Philox4x32-10 published, in fills");
+    published_philox_filled(0, 0, 0);
+    published_philox_filled(
+        0xffff_ffff_ffff_ffff,
+        0xffff_ffff_ffff_ffff,
+        0xffff_ffff_ffff_ffff,
+    );
+    published_philox_filled(
+        0x85a3_08d3_243f_6a88,
+        0x0370_7344_1319_8a2e,
+        0x299f_31d0_a409_3822,
+    );
+}
+
+// The refusal numbers of the scope document: a zero state, a lane past the last, a zero lane; and of fills, no kind's number, and a length
+// that is no multiple of the width.
 fn refusals() {
     title(b"Refusals");
     let zero = Xoshiro256pp::from_state([0; 4]);
@@ -113,6 +177,18 @@ fn refusals() {
     lanes[7] = none;
     let refused = Xoshiro256ppX8::from_lanes(lanes);
     decimal(refused.refusal);
+    refused_fill(0, &mut [0u8; 8]);
+    refused_fill(7, &mut [0u8; 8]);
+    refused_fill(5, &mut [0u8; 6]);
+    refused_fill(6, &mut [0u8; 12]);
+}
+
+fn refused_fill(kind: u64, out: &mut [u8]) {
+    let built = Xoshiro256ppX8::from_seed(42);
+    let x = xoshiro_fills::bytes::fill_bytes(built.rng, kind, out);
+    decimal(x.refusal);
+    let p = philox_fills::bytes::fill_bytes(Philox4x32X8::from_seed(42), kind, out);
+    decimal(p.refusal);
 }
 
 // ---- the Rust's answers
@@ -195,8 +271,22 @@ fn event(rng: Philox4x32X8, pick: u64) -> Philox4x32X8 {
     d.rng
 }
 
+// Fills of every kind; on Philox the counter passes 2^64 among them. Then one draw each, of the generator after them.
+fn fills() {
+    title(b"Xoshiro256ppX8 fills");
+    let start = Xoshiro256ppX8::from_seed_block(0x0123_4567_89ab_cdef, 3);
+    let rng = filled::xoshiro(start.rng);
+    lane_draws(rng, 1);
+    title(b"Philox4x32X8 fills");
+    let rng = filled::philox(Philox4x32X8::new(0x0123_4567_89ab_cdef, 7).seek(
+        0xffff_ffff_ffff_fe00,
+    ));
+    event(rng, 7);
+}
+
 fn main() {
     published();
+    published_filled();
     refusals();
     title(b"Xoshiro256pp");
     scalar(0);
@@ -213,4 +303,5 @@ fn main() {
     machine(42, 0, 200);
     machine(0x0123_4567_89ab_cdef, 7, 200);
     machine(0xffff_ffff_ffff_ffff, 0xffff_ffff_ffff_ffff, 200);
+    fills();
 }
