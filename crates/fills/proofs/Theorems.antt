@@ -3,7 +3,7 @@ use mathlib.Core.Bool.{Bool, true, false, cond, _&&_}
 use mathlib.Core.List.{List, [], _∷_, _++_, map}
 use mathlib.Core.Path.{_≡_, refl, sym, ap, ap₂, _∙_}
 use Prim.Native.Nat.{ℕ, zero, suc, _+_, _*_, _/_, _%_, _^_, _<_, _≤_}
-use native.Mathlib.Nat.{not-suc-le-zero, le-of-suc-le-suc, div-eq-of-eq-mul-left}
+use native.Mathlib.Nat.{not-suc-le-zero, le-of-suc-le-suc, div-eq-of-eq-mul-left, div-lt-iff-lt-mul, mul-suc, mul-le-mul-left}
 use native.Mathlib.Omega.{arith}
 use borrow.Author.Tests.{leb-true, eqb-true, le-leb, lt-leb, eq-eqb, ne-eqb}
 use lib.Dec.{leb, eqb}
@@ -14,14 +14,17 @@ use Rattle.base.specs.Engine.{wordsFrom}
 use Rattle.base.specs.Bytes.{flat}
 use Rattle.base.specs.Iterate.{iterate}
 use Rattle.base.specs.Table.{table}
+use Rattle.base.proofs.Table.{table-same}
 use Rattle.base.specs.Zip.{zipWith}
 use Rattle.floats.specs.patterns.Numbers as numbers
 use Rattle.floats.specs.units.Unit.{unit, oneMinusUnit}
 use Rattle.math.specs.BoxMuller.{cosHalf, sinHalf}
-use Rattle.fills.specs.Fill.{drawsFor, element}
+use Rattle.fills.specs.Fill.{Kind, roundUp, drawsFor, element}
 use Rattle.fills.specs.Kinds.{lows, highs, u32s, normalsOf, kindAt}
 use Rattle.fills.specs.FillBytes.{bytesOf, refusalOf, elements, bytesWritten, bytesDraws}
-use Rattle.fills.specs.Claims.{Row1, Row2, Row3, Row4, Row5, Row6, DrawsAndWidths, SixKinds, Refusals, BytesOfTheFill}
+use Rattle.fills.specs.Claims.{Row1, Row2, Row3, Row4, Row5, Row6, DrawsAndWidths, SixKinds, Refusals, BytesOfTheFill, AgreeBelow, OnlyItsDraws}
+use Rattle.fills.proofs.Filling.{Sound}
+use Rattle.fills.proofs.Rounding.{round-covers}
 use Rattle.fills.proofs.Sounds.{halves-long, length-zip, row}
 
 -- ---- elements of lists made element by element
@@ -184,4 +187,30 @@ bytes-of-the-fill G E k g gᵇ gᵗ before after old new dᵇ dᵗ B T long =
       B .writes ∙ ap (λ (m : ℕ). flat (bytesOf K) (table m (element K W))) n ∙ ap (flat (bytesOf K)) (sym (T .writes)),
       draws,
       B .state ∙ ap (λ (m : ℕ). iterate (E .next) m g) draws ∙ sym (T .state),
+    )
+
+-- ---- the draws that a fill depends on
+-- the group of a place is one of those that n places begin
+group-of : (n w i : ℕ) → 0 < w → i < n → i / w < roundUp n w
+group-of n w i pos h = div-lt-iff-lt-mul pos .1 (omega (arith, round-covers n w pos))
+
+only-draws : {A : Type 0} (K : Kind A) → Sound K → (n : ℕ) (U W : ℕ → List ℕ) → AgreeBelow (drawsFor K n) U W → table n (element K U) ≡ table n (element K W)
+only-draws K sound n U W same =
+    table-same n (element K U) (element K W) (λ i h. ap (λ (l : List _). getD l (i % w) (K .blank)) (sound .own _ _ (λ m b. same (d * (i / w) + m) (below i m h b))))
+  where
+    w : ℕ
+    w = K .places
+
+    d : ℕ
+    d = K .draws
+
+    below : (i m : ℕ) → i < n → m < d → d * (i / w) + m < d * roundUp n w
+    below i m h b = omega (arith, mul-suc d (i / w), mul-le-mul-left d (group-of n w i (sound .some) h))
+
+pub only-its-draws : OnlyItsDraws
+unfolding bytesWritten bytesDraws
+only-its-draws k n U W =
+    let K = kindAt k .kind in (
+      only-draws K (row k .sound) n U W,
+      (λ same. ap (flat (bytesOf K)) (only-draws K (row k .sound) (elements k n) U W same)),
     )

@@ -7,11 +7,12 @@ use lib.Ieee.{Float, binary32, binary64}
 use lib.ListN.{length, getD}
 use Rattle.base.specs.Engine.{Engine}
 use Rattle.base.specs.Bytes.{flat}
+use Rattle.base.specs.Table.{table}
 use Rattle.floats.specs.units.Unit.{unit, oneMinusUnit}
 use Rattle.math.specs.BoxMuller.{cosHalf, sinHalf}
 use Rattle.fills.specs.Fill.{roundUp, drawsFor, element, Filled}
 use Rattle.fills.specs.Kinds.{u64s, u32s, f32s, f64s, normalF32s, normalF64s, kinds, kindAt}
-use Rattle.fills.specs.FillBytes.{bytesOf, refusalOf, FilledBytes}
+use Rattle.fills.specs.FillBytes.{bytesOf, refusalOf, bytesWritten, bytesDraws, FilledBytes}
 
 -- ---- the table, row by row: element k, where each draw has eight words
 abbrev pub Row : {A : Type 0} → ((ℕ → List ℕ) → ℕ → A) → ((ℕ → List ℕ) → ℕ → A) → Type 0
@@ -100,3 +101,13 @@ BytesOfTheFill =
     → FilledBytes E k g before after 0 dᵇ gᵇ → Filled E (kindAt k .kind) g old new dᵗ gᵗ
     → length before ≡ length old * kindAt k .kind .width
     → (after ≡ flat (bytesOf (kindAt k .kind)) new) × (dᵇ ≡ dᵗ) × (gᵇ ≡ gᵗ)
+
+-- ---- a fill depends on no draw at or past its count: two streams of words that agree on its draws give the same elements and the same bytes
+abbrev pub AgreeBelow : ℕ → (ℕ → List ℕ) → (ℕ → List ℕ) → Type 0
+AgreeBelow d U W = (m : ℕ) → m < d → U m ≡ W m
+
+abbrev pub OnlyItsDraws : Type 0
+OnlyItsDraws =
+    (k n : ℕ) (U W : ℕ → List ℕ)
+    → (AgreeBelow (drawsFor (kindAt k .kind) n) U W → table n (element (kindAt k .kind) U) ≡ table n (element (kindAt k .kind) W))
+    × (AgreeBelow (bytesDraws k n) U W → bytesWritten k U n ≡ bytesWritten k W n)
