@@ -4,8 +4,8 @@ use philox_fills::bytes;
 use philox_fills::typed;
 ghost use Rattle.clients.specs.philox4x32.Model.{Simulated};
 
-// What the model hands back besides its slices: the words of its last draw; its draws since the seek; the number of the byte fill's refusal,
-// or 0; and the generator after it.
+// What the model hands back besides its slices: the words of its last draw; its draws since the seek; the number of the byte fill's
+// refusal, or 0; and the generator after it.
 pub struct Outcome {
     pub words: [u64; 8],
     pub draws: u64,

@@ -126,4 +126,5 @@ philox-ships =
       fill-normal-f64 = λ κs a r e. (refl, refl);
       fill-bytes = λ κs a r e. (refl, refl);
       draw-many = λ κs a r e. (refl, refl);
+      fill-buffer = λ κs a r e. (refl, refl);
     }

@@ -1,5 +1,5 @@
--- The lists of a host's calls are lists of calls of the C functions that ship: what a caller learns from a function's own contract is its call's
--- step in a list, and the function asks nothing.
+-- The lists of a host's calls are lists of calls of the C functions that ship: what a caller learns from a function's own contract is its
+-- call's step in a list, and the function asks nothing.
 use mathlib.Core.Path.{_≡_}
 use Prim.Native.Nat.{_^_, _<_}
 use contract.Lifetimes.{Lfts}
@@ -33,4 +33,5 @@ pub record HostShips : Type 1 where
   pub xoshiro-jump-blocks : Says xoshiro-jump-reads.Asked xoshiro-jump-reads.Learnt
       (λ κs a r e. xoshiro.Step (now (a .0)) (xoshiro.move (a .1 .0) (now (a .1 .1 .0)) (now (e .1 .1 .0)) r (now (e .0))))
   pub philox-seek : (κs : Lfts 1) (a : Dens κs philox-seek-kinds.ps) (r : _) (e : _) (u64 : a .1 .0 < 2 ^ 64)
-      → (philox-seek-reads.Asked κs a ≡ Unit {0}) × (philox-seek-reads.Learnt κs a r e ≡ philox.Step (now (a .0)) (philox.seek (a .1 .0) u64 r (now (e .0))))
+      → (philox-seek-reads.Asked κs a ≡ Unit {0})
+      × (philox-seek-reads.Learnt κs a r e ≡ philox.Step (now (a .0)) (philox.seek (a .1 .0) u64 r (now (e .0))))

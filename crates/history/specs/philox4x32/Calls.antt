@@ -14,8 +14,8 @@ use Rattle.philox.specs.declared.x8.Philox4x32X8.{Philox4x32X8}
 use Rattle.philox_fills.specs.declared.bytes.ByteFill.{ByteFill}
 use Rattle.philox_fills.specs.declared.fill_words.Fill.{Fill}
 
--- A call, with what it was handed besides the generator and what it handed back: a single draw (next_u64x8, draw), a group call (blocks), a
--- seek (to a u64), a typed fill, a byte fill with its kind's number, m draws whose words go into a slice from place `at` on (draw_many,
+-- A call, with what it was handed besides the generator and what it handed back: a single draw (next_u64x8, draw), a group call (blocks),
+-- a seek (to a u64), a typed fill, a byte fill with its kind's number, m draws whose words go into a slice from place `at` on (draw_many,
 -- fill_buffer). `before` and `after` are the lent slice at the call and at the return.
 pub data Call : Type 1 where
   draw : (r : Draw) → Call

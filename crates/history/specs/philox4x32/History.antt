@@ -82,7 +82,7 @@ pub record RightGroup (s₀ : Philox4x32X8) (t : Tally) (r : Blocks) : Type 0 wh
   pub word2 : r .w2 ≡ groupAt s₀ (counterOf t) .w2
   pub word3 : r .w3 ≡ groupAt s₀ (counterOf t) .w3
 
--- what a call on the generator s handed out is right, where the tally before it is t; draw m of a fill, or of many draws at once, has m more
+-- what a call on the generator s handed out is right, where the tally before it is t; draw m of a fill, or of many draws, has m more
 abbrev pub Right : Philox4x32X8 → Tally → Philox4x32X8 → Call → Type 0
 Right s₀ t s (draw r) = r .words ≡ wordsAt s₀ t
 Right s₀ t s (group r) = RightGroup s₀ t r

@@ -1,7 +1,7 @@
 -- The lists are lists of calls of the functions that ship: for each public function that makes a Philox generator, moves it or draws from
 -- it, what a caller learns from its own contract is its call's step in a list, and it asks nothing.
 use mathlib.Core.Path.{_≡_}
-use Prim.Native.Nat.{_-_, _^_, _<_}
+use Prim.Native.Nat.{_-_, _^_, _<_, min}
 use contract.Lifetimes.{Lfts}
 use borrow.Fn.Kinds.{Dens}
 use denote.Ref.{now}
@@ -18,6 +18,7 @@ use Rattle.philox.proofs.x8.Philox4x32X8.next_u64x8.Reads as next-u64x8-reads
 use Rattle.philox.proofs.x8.Philox4x32X8.seek.Kinds as seek-kinds
 use Rattle.philox.proofs.x8.Philox4x32X8.seek.Reads as seek-reads
 use Rattle.philox_fills.proofs.bytes.fill_bytes.Reads as fill-bytes-reads
+use Rattle.philox_fills.proofs.fill_words.fill_buffer.Reads as fill-buffer-reads
 use Rattle.philox_fills.proofs.fill_words.fill_u64.Reads as fill-u64-reads
 use Rattle.philox_fills.proofs.typed.fill_u32.Reads as fill-u32-reads
 use Rattle.philox_fills.proofs.typed.fill_f32.Reads as fill-f32-reads
@@ -50,4 +51,9 @@ pub record PhiloxShips : Type 1 where
       (λ κs a r e. Step (a .0) (bytes (a .1 .0) (now (a .1 .1 .0)) (now (e .1 .1 .0)) r))
   -- many draws at once: the one that waits, or as many whole groups as there is room for
   pub draw-many : Says draw-many-reads.Asked draw-many-reads.Learnt
-      (λ κs a r e. let m = drawsAtOnce (a .0) (length (now (a .1 .0)) - a .1 .1 .0) in Step (a .0) (many (a .1 .1 .0) m (now (a .1 .0)) (now (e .1 .0)) (r .draws) (r .rng)))
+      (λ κs a r e.
+      let m = drawsAtOnce (a .0) (length (now (a .1 .0)) - a .1 .1 .0) in
+      Step (a .0) (many (a .1 .1 .0) m (now (a .1 .0)) (now (e .1 .0)) (r .draws) (r .rng)))
+  -- m draws, at most 16, into a buffer
+  pub fill-buffer : Says fill-buffer-reads.Asked fill-buffer-reads.Learnt
+      (λ κs a r e. Step (a .0) (many 0 (min 16 (a .1 .1 .0)) (now (a .1 .0)) (now (e .1 .0)) (r .draws) (r .rng)))

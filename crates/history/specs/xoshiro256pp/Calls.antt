@@ -15,8 +15,8 @@ use Rattle.xoshiro_fills.specs.declared.bytes.ByteFill.{ByteFill}
 use Rattle.xoshiro_fills.specs.declared.fill_words.Fill.{Fill}
 
 -- A call, with what it was handed besides the generator and what it handed back: a single draw (next_u64x8), a typed fill, a byte fill with
--- its kind's number, a block move (jump_blocks), m draws whose words go into a slice from place `at` on (draw_many, fill_buffer). `before` and
--- `after` are the lent slice at the call and at the return.
+-- its kind's number, a block move (jump_blocks), m draws whose words go into a slice from place `at` on (draw_many, fill_buffer). `before`
+-- and `after` are the lent slice at the call and at the return.
 pub data Call : Type 1 where
   draw : (r : Draw) → Call
   fill : {A : Type 0} (K : Kind A) (before after : List A) (r : Fill) → Call

@@ -17,8 +17,8 @@ use Rattle.xoshiro.specs.declared.x8.Xoshiro256ppX8.{Xoshiro256ppX8}
 use Rattle.history.specs.Draws.{RightDraws}
 use Rattle.history.specs.xoshiro256pp.Calls.{Call, draw, fill, bytes, move, many, rngAfter, Run}
 
--- ---- what the calls reported: an accepted fill the draws that it returned, as do many draws at once, a single draw 1, a block move the jumps
--- that it returned
+-- ---- what the calls reported: an accepted fill, or many draws at once, the draws that were returned, a single draw 1, a block move the
+-- jumps that it returned
 abbrev pub drawsReported : Call → ℕ
 drawsReported (draw r) = 1
 drawsReported (fill K before after r) = r .draws
@@ -33,8 +33,8 @@ jumpsReported (bytes k before after r) = 0
 jumpsReported (move n r) = r .jumps
 jumpsReported (many at m before after draws rng) = 0
 
--- ---- D and J, whole numbers, never reduced: the table's draws for an accepted fill, m for m draws at once and 1 for a single draw; 8 n modulo
--- 2 ^ 64 for each block move, after the constructor's 8 b modulo 2 ^ 64
+-- ---- D and J, whole numbers, never reduced: the table's draws for an accepted fill, m for m draws at once and 1 for a single draw; 8 n
+-- modulo 2 ^ 64 for each block move, after the constructor's 8 b modulo 2 ^ 64
 abbrev pub drawsCounted : Call → ℕ
 drawsCounted (draw r) = 1
 drawsCounted (fill K before after r) = drawsFor K (length before)
@@ -60,8 +60,8 @@ J b calls = blockJumps b + total jumpsCounted calls
 unfoldable pub wordsAt : State → ℕ → ℕ → List ℕ
 wordsAt s d j = table 8 (λ i. output (steps d (jumps (j + i) s)))
 
--- what a call on the generator g handed out is right, where D and J before it are d and j; draw m of a fill, or of many draws at once, has m
--- more in its D
+-- what a call on the generator g handed out is right, where D and J before it are d and j; draw m of a fill, or of many draws at once, has
+-- m more in its D
 abbrev pub Right : State → ℕ → ℕ → Xoshiro256ppX8 → Call → Type 0
 Right s d j g (draw r) = r .words ≡ wordsAt s d j
 Right s d j g (fill K before after r) = RightFill (λ m. wordsAt s (d + m) j) K before after (r .draws)

@@ -1,5 +1,5 @@
--- The lists are lists of calls of the functions that ship: for each public function that makes an eight-lane generator, moves it or draws from
--- it, what a caller learns from its own contract is its call's step in a list, and it asks nothing.
+-- The lists are lists of calls of the functions that ship: for each public function that makes an eight-lane generator, moves it or draws
+-- from it, what a caller learns from its own contract is its call's step in a list, and it asks nothing.
 use mathlib.Core.Path.{_≡_}
 use Prim.Native.Nat.{_/_, min}
 use denote.Ref.{now}
@@ -12,6 +12,7 @@ use Rattle.xoshiro.proofs.x8.Xoshiro256ppX8.from_seed_block.Reads as from-seed-
 use Rattle.xoshiro.proofs.x8.Xoshiro256ppX8.jump_blocks.Reads as jump-blocks-reads
 use Rattle.xoshiro.proofs.x8.Xoshiro256ppX8.next_u64x8.Reads as next-u64x8-reads
 use Rattle.xoshiro_fills.proofs.bytes.fill_bytes.Reads as fill-bytes-reads
+use Rattle.xoshiro_fills.proofs.fill_words.fill_buffer.Reads as fill-buffer-reads
 use Rattle.xoshiro_fills.proofs.fill_words.fill_u64.Reads as fill-u64-reads
 use Rattle.xoshiro_fills.proofs.typed.fill_u32.Reads as fill-u32-reads
 use Rattle.xoshiro_fills.proofs.typed.fill_f32.Reads as fill-f32-reads
@@ -42,3 +43,6 @@ pub record XoshiroShips : Type 1 where
   -- many draws at once: as many as are asked for, or as there is room for
   pub draw-many : Says draw-many-reads.Asked draw-many-reads.Learnt
       (λ κs a r e. let m = min (length (now (a .1 .0)) / 8) (a .1 .1 .0) in Step (a .0) (many 0 m (now (a .1 .0)) (now (e .1 .0)) m r))
+  -- m draws, at most 16, into a buffer
+  pub fill-buffer : Says fill-buffer-reads.Asked fill-buffer-reads.Learnt
+      (λ κs a r e. Step (a .0) (many 0 (min 16 (a .1 .1 .0)) (now (a .1 .0)) (now (e .1 .0)) (r .draws) (r .rng)))
