@@ -2,6 +2,7 @@
 use mathlib.Core.Path.{refl}
 use lib.Ieee.{round}
 use Rattle.floats.specs.units.Unit.{dyadic, unit}
+use Rattle.fills.specs.Kinds.{kindAt}
 use Rattle.words.specs.Words.{shl, rotl}
 use Rattle.xoshiro.specs.scalar.Xoshiro256pp.{output, step}
 use Rattle.xoshiro.specs.x8.Calls.{movedBlocks}
@@ -9,7 +10,7 @@ use Rattle.philox.specs.x8.Machine.{sought, holding, grouped, nextOf}
 use Rattle.cases.specs.Claims.{Cases}
 
 pub cases : Cases
-unfolding unit dyadic round output step shl rotl sought holding grouped nextOf movedBlocks
+unfolding kindAt unit dyadic round output step shl rotl sought holding grouped nextOf movedBlocks
 cases =
     record {
       first-output = refl;

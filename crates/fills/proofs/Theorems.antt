@@ -5,8 +5,8 @@ use mathlib.Core.Path.{_≡_, refl, sym, ap, ap₂, _∙_}
 use Prim.Native.Nat.{ℕ, zero, suc, _+_, _*_, _/_, _%_, _^_, _<_, _≤_}
 use native.Mathlib.Nat.{not-suc-le-zero, le-of-suc-le-suc, div-eq-of-eq-mul-left, div-lt-iff-lt-mul, mul-suc, mul-le-mul-left}
 use native.Mathlib.Omega.{arith}
-use borrow.Author.Tests.{leb-true, eqb-true, le-leb, lt-leb, eq-eqb, ne-eqb}
-use lib.Dec.{leb, eqb}
+use borrow.Author.Tests.{ltb-true, ltb-false, leb-true, eqb-true, le-leb, lt-leb, eq-eqb, ne-eqb}
+use lib.Dec.{ltb, leb, eqb}
 use lib.Ieee.{Float, Format, binary32, binary64}
 use lib.ListN.{length, getD, length-map, List·getD-append}
 use lib.Seq.{getD-append-add}
@@ -22,7 +22,7 @@ use Rattle.math.specs.BoxMuller.{cosHalf, sinHalf}
 use Rattle.fills.specs.Fill.{Kind, roundUp, drawsFor, element}
 use Rattle.fills.specs.Kinds.{lows, highs, u32s, normalsOf, kindAt}
 use Rattle.fills.specs.FillBytes.{bytesOf, refusalOf, elements, bytesWritten, bytesDraws}
-use Rattle.fills.specs.Claims.{Row1, Row2, Row3, Row4, Row5, Row6, DrawsAndWidths, SixKinds, Refusals, BytesOfTheFill, AgreeBelow, OnlyItsDraws}
+use Rattle.fills.specs.Claims.{byHalf, Row1, Row2, Row3, Row4, Row5, Row6, KindNumbers, DrawsAndWidths, SixKinds, Refusals, BytesOfTheFill, AgreeBelow, OnlyItsDraws}
 use Rattle.fills.proofs.Filling.{Sound}
 use Rattle.fills.proofs.Rounding.{round-covers}
 use Rattle.fills.proofs.Sounds.{halves-long, length-zip, row}
@@ -53,7 +53,16 @@ module _ {A : Type 0} (xs ys : List A) (h : length xs ≡ 8) (r : ℕ) (d : A) w
 one-draw : (words : ℕ → List ℕ) (q : ℕ) → words (1 * q + 0) ≡ words q
 one-draw words q = ap words (omega arith)
 
+-- one rule where r < 8, another where it is not
+by-half : {A : Type 0} (k : ℕ) {x a b : A} → (k % 16 < 8 → x ≡ a) → (8 ≤ k % 16 → x ≡ b) → x ≡ byHalf k a b
+by-half {A} k {x} {a} {b} p q = go (ltb (k % 16) 8) refl
+  where
+    go : (t : Bool) → ltb (k % 16) 8 ≡ t → x ≡ cond t a b
+    go true e = p (ltb-true (k % 16) 8 e)
+    go false e = q (ltb-false (k % 16) 8 e)
+
 pub row-1 : Row1
+unfolding kindAt
 row-1 words h k = ap (λ (w : List ℕ). getD w (k % 8) 0) (one-draw words (k / 8))
 
 module _ (w : List ℕ) (h : length w ≡ 8) (i : ℕ) (l : i < 8) where
@@ -70,21 +79,24 @@ length-highs : (w : List ℕ) → length w ≡ 8 → length (highs w) ≡ 8
 length-highs w h = length-map w (λ x. x / 2 ^ 32) ∙ h
 
 pub row-2 : Row2
+unfolding kindAt
 row-2 words h k =
     let q : ℕ = k / 16 in
     let w : List ℕ = words q in
-    let start : element u32s words k ≡ getD (lows w ++ highs w) (k % 16) 0 = ap (λ (x : List ℕ). getD (lows x ++ highs x) (k % 16) 0) (one-draw words q) in (
-      (λ l. start ∙ first-half (lows w) (highs w) (length-lows w (h q)) (k % 16) 0 l ∙ low-at w (h q) (k % 16 % 8) (omega arith) ∙ ap (λ (i : ℕ). getD w i 0 % 2 ^ 32) (omega arith)),
-      (λ l. start ∙ second-half (lows w) (highs w) (length-lows w (h q)) (k % 16) 0 l (omega arith) ∙ high-at w (h q) (k % 16 % 8) (omega arith) ∙ ap (λ (i : ℕ). getD w i 0 / 2 ^ 32) (omega arith)),
-    )
+    let start : element u32s words k ≡ getD (lows w ++ highs w) (k % 16) 0 = ap (λ (x : List ℕ). getD (lows x ++ highs x) (k % 16) 0) (one-draw words q) in
+    by-half k
+    (λ l. start ∙ first-half (lows w) (highs w) (length-lows w (h q)) (k % 16) 0 l ∙ low-at w (h q) (k % 16 % 8) (omega arith) ∙ ap (λ (i : ℕ). getD w i 0 % 2 ^ 32) (omega arith))
+    (λ l. start ∙ second-half (lows w) (highs w) (length-lows w (h q)) (k % 16) 0 l (omega arith) ∙ high-at w (h q) (k % 16 % 8) (omega arith) ∙ ap (λ (i : ℕ). getD w i 0 / 2 ^ 32) (omega arith))
 
 pub row-3 : Row3
+unfolding kindAt
 row-3 words h k =
     let w : List ℕ = words (1 * (k / 16) + 0) in
-    getD-map (unit binary32) (lows w ++ highs w) (k % 16) 0 _ (omega (arith, halves-long w (h (1 * (k / 16) + 0))))
+    getD-map (unit binary32) (lows w ++ highs w) (k % 16) 0 _ (omega (arith, halves-long w (h (1 * (k / 16) + 0)))) ∙ ap (unit binary32) (row-2 words h k)
 
 pub row-4 : Row4
-row-4 words h k = getD-map (unit binary64) (words (1 * (k / 8) + 0)) (k % 8) 0 _ (omega (arith, h (1 * (k / 8) + 0)))
+unfolding kindAt
+row-4 words h k = getD-map (unit binary64) (words (1 * (k / 8) + 0)) (k % 8) 0 _ (omega (arith, h (1 * (k / 8) + 0))) ∙ ap (unit binary64) (row-1 words h k)
 
 -- the halves of Box-Muller, from words a and b
 module _ (f : Format) (a b : List ℕ) (ha : length a ≡ 8) (hb : length b ≡ 8) (r : ℕ) (d : Float) where
@@ -114,6 +126,7 @@ module _ (f : Format) (a b : List ℕ) (ha : length a ≡ 8) (hb : length b ≡ 
       )
 
 pub row-5 : Row5
+unfolding kindAt
 row-5 words h k =
     let q : ℕ = k / 16 in
     let w : List ℕ = words q in
@@ -122,20 +135,26 @@ row-5 words h k =
     let start = ap (λ (x : List ℕ). getD (normalsOf binary32 (lows x) (highs x)) r numbers.zero) (one-draw words q) in
     let n = normals-at binary32 (lows w) (highs w) (length-lows w (h q)) (length-highs w (h q)) r numbers.zero in
     let low = low-at w (h q) (r % 8) i< in
-    let high = high-at w (h q) (r % 8) i< in (
-      (λ l. start ∙ n .0 l ∙ λ j. cosHalf binary32 (oneMinusUnit binary32 (low j)) (unit binary32 (high j))),
-      (λ l. start ∙ n .1 l (omega arith) ∙ λ j. sinHalf binary32 (oneMinusUnit binary32 (low j)) (unit binary32 (high j))),
-    )
+    let high = high-at w (h q) (r % 8) i< in
+    by-half k
+    (λ l. start ∙ n .0 l ∙ λ j. cosHalf binary32 (oneMinusUnit binary32 (low j)) (unit binary32 (high j)))
+    (λ l. start ∙ n .1 l (omega arith) ∙ λ j. sinHalf binary32 (oneMinusUnit binary32 (low j)) (unit binary32 (high j)))
 
 pub row-6 : Row6
+unfolding kindAt
 row-6 words h k =
     let q : ℕ = k / 16 in
     let e : 2 * q + 0 ≡ 2 * q = omega arith in
     let start = ap (λ (x : List ℕ). getD (normalsOf binary64 x (words (2 * q + 1))) (k % 16) numbers.zero) (ap words e) in
     let n = normals-at binary64 (words (2 * q)) (words (2 * q + 1)) (h (2 * q)) (h (2 * q + 1)) (k % 16) numbers.zero in
-    ((λ l. start ∙ n .0 l), (λ l. start ∙ n .1 l (omega arith)))
+    by-half k (λ l. start ∙ n .0 l) (λ l. start ∙ n .1 l (omega arith))
+
+pub kind-numbers : KindNumbers
+unfolding kindAt
+kind-numbers = record { kind1 = refl; kind2 = refl; kind3 = refl; kind4 = refl; kind5 = refl; kind6 = refl }
 
 pub draws-and-widths : DrawsAndWidths
+unfolding kindAt
 draws-and-widths n =
     record {
       draws1 = omega arith;
@@ -164,7 +183,7 @@ refusals k n =
       accepts = λ a b z. simp (le-leb 1 k a, le-leb k 6 b, eq-eqb (n % w) 0 z);
       below = λ h. simp (lt-leb 1 k h);
       above = λ h. simp (le-leb 1 k (omega arith), lt-leb k 6 h);
-      length = λ a b z. simp (le-leb 1 k a, le-leb k 6 b, ne-eqb (n % w) 0 z);
+      uneven = λ a b z. simp (le-leb 1 k a, le-leb k 6 b, ne-eqb (n % w) 0 z);
     }
   where
     w : ℕ

@@ -1,8 +1,10 @@
 -- What is claimed of the table and of the fills that promise it. Each claim is proved in proofs/Theorems.antt.
 -- `words m` are the words of draw m, counted from 0 at the fill's start; q stands for k / 16 and r for k mod 16.
+use mathlib.Core.Bool.{cond}
 use mathlib.Core.List.{List}
 use mathlib.Core.Path.{_≡_}
 use Prim.Native.Nat.{ℕ, _+_, _-_, _*_, _/_, _%_, _^_, _<_, _≤_}
+use lib.Dec.{ltb}
 use lib.Ieee.{Float, binary32, binary64}
 use lib.ListN.{length, getD}
 use Rattle.base.specs.Engine.{Engine}
@@ -10,38 +12,33 @@ use Rattle.base.specs.Bytes.{flat}
 use Rattle.base.specs.Table.{table}
 use Rattle.floats.specs.units.Unit.{unit, oneMinusUnit}
 use Rattle.math.specs.BoxMuller.{cosHalf, sinHalf}
-use Rattle.fills.specs.Fill.{roundUp, drawsFor, element, Filled}
-use Rattle.fills.specs.Kinds.{u64s, u32s, f32s, f64s, normalF32s, normalF64s, kinds, kindAt}
+use Rattle.fills.specs.Fill.{Kind, roundUp, drawsFor, element, Filled}
+use Rattle.fills.specs.Kinds.{u64s, u32s, f32s, f64s, normalF32s, normalF64s, of, kinds, kindAt}
 use Rattle.fills.specs.FillBytes.{bytesOf, refusalOf, bytesWritten, bytesDraws, FilledBytes}
 
--- ---- the table, row by row: element k, where each draw has eight words
-abbrev pub Row : {A : Type 0} → ((ℕ → List ℕ) → ℕ → A) → ((ℕ → List ℕ) → ℕ → A) → Type 0
-Row says element = (words : ℕ → List ℕ) → ((m : ℕ) → length (words m) ≡ 8) → (k : ℕ) → element words k ≡ says words k
-
+-- ---- the table, row by row: element k as the scope document says it
 -- word i of draw m
 abbrev pub word : (ℕ → List ℕ) → ℕ → ℕ → ℕ
 word words m i = getD (words m) i 0
 
--- a row whose groups have two halves: one rule where r < 8, another where it is not
-abbrev pub Halves : {A : Type 0} → ((ℕ → List ℕ) → ℕ → A) → ((ℕ → List ℕ) → ℕ → A) → ((ℕ → List ℕ) → ℕ → A) → Type 0
-Halves below above element =
-    (words : ℕ → List ℕ) → ((m : ℕ) → length (words m) ≡ 8) → (k : ℕ)
-    → (k % 16 < 8 → element words k ≡ below words k) × (8 ≤ k % 16 → element words k ≡ above words k)
+-- a where r < 8, b where it is not
+abbrev pub byHalf : {A : Type 0} → ℕ → A → A → A
+byHalf k a b = cond (ltb (k % 16) 8) a b
 
 -- 1: word k mod 8 of draw floor(k / 8)
-abbrev pub Row1 : Type 0
-Row1 = Row (λ words k. word words (k / 8) (k % 8)) (element u64s)
+abbrev pub u64At : (ℕ → List ℕ) → ℕ → ℕ
+u64At words k = word words (k / 8) (k % 8)
 
 -- 2: draw q: low half of word r if r < 8, else high half of word r - 8
-abbrev pub Row2 : Type 0
-Row2 = Halves (λ words k. word words (k / 16) (k % 16) % 2 ^ 32) (λ words k. word words (k / 16) (k % 16 - 8) / 2 ^ 32) (element u32s)
+abbrev pub u32At : (ℕ → List ℕ) → ℕ → ℕ
+u32At words k = byHalf k (word words (k / 16) (k % 16) % 2 ^ 32) (word words (k / 16) (k % 16 - 8) / 2 ^ 32)
 
 -- 3: unit of kind 2; 4: unit of kind 1
-abbrev pub Row3 : Type 0
-Row3 = Row (λ words k. unit binary32 (element u32s words k)) (element f32s)
+abbrev pub f32At : (ℕ → List ℕ) → ℕ → Float
+f32At words k = unit binary32 (u32At words k)
 
-abbrev pub Row4 : Type 0
-Row4 = Row (λ words k. unit binary64 (element u64s words k)) (element f64s)
+abbrev pub f64At : (ℕ → List ℕ) → ℕ → Float
+f64At words k = unit binary64 (u64At words k)
 
 -- 5: lane r mod 8, u1 = 1 - unit of the low half and u2 = unit of the high half of that word of draw q; the cosine half if r < 8, else the sine half
 abbrev pub from32 : (Float → Float → Float) → (ℕ → List ℕ) → ℕ → Float
@@ -49,30 +46,70 @@ from32 half words k =
     let w = word words (k / 16) (k % 16 % 8) in
     half (oneMinusUnit binary32 (w % 2 ^ 32)) (unit binary32 (w / 2 ^ 32))
 
-abbrev pub Row5 : Type 0
-Row5 = Halves (from32 (cosHalf binary32)) (from32 (sinHalf binary32)) (element normalF32s)
+abbrev pub normalF32At : (ℕ → List ℕ) → ℕ → Float
+normalF32At words k = byHalf k (from32 (cosHalf binary32) words k) (from32 (sinHalf binary32) words k)
 
 -- 6: lane r mod 8, u1 = 1 - unit from draw 2 q, u2 = unit from draw 2 q + 1
 abbrev pub from64 : (Float → Float → Float) → (ℕ → List ℕ) → ℕ → Float
 from64 half words k = half (oneMinusUnit binary64 (word words (2 * (k / 16)) (k % 16 % 8))) (unit binary64 (word words (2 * (k / 16) + 1) (k % 16 % 8)))
 
+abbrev pub normalF64At : (ℕ → List ℕ) → ℕ → Float
+normalF64At words k = byHalf k (from64 (cosHalf binary64) words k) (from64 (sinHalf binary64) words k)
+
+-- ---- the kind of each number has the elements of its row, where each draw has eight words
+abbrev pub Eights : (ℕ → List ℕ) → Type 0
+Eights words = (m : ℕ) → length (words m) ≡ 8
+
+abbrev pub Row : {A : Type 0} → ((ℕ → List ℕ) → ℕ → A) → Kind A → Type 0
+Row says K = (words : ℕ → List ℕ) → Eights words → (k : ℕ) → element K words k ≡ says words k
+
+abbrev pub Row1 : Type 0
+unfolding kindAt
+Row1 = Row u64At (kindAt 1 .kind)
+
+abbrev pub Row2 : Type 0
+unfolding kindAt
+Row2 = Row u32At (kindAt 2 .kind)
+
+abbrev pub Row3 : Type 0
+unfolding kindAt
+Row3 = Row f32At (kindAt 3 .kind)
+
+abbrev pub Row4 : Type 0
+unfolding kindAt
+Row4 = Row f64At (kindAt 4 .kind)
+
+abbrev pub Row5 : Type 0
+unfolding kindAt
+Row5 = Row normalF32At (kindAt 5 .kind)
+
 abbrev pub Row6 : Type 0
-Row6 = Halves (from64 (cosHalf binary64)) (from64 (sinHalf binary64)) (element normalF64s)
+unfolding kindAt
+Row6 = Row normalF64At (kindAt 6 .kind)
+
+-- which kind has which number
+pub record KindNumbers : Type 1 where
+  pub kind1 : kindAt 1 ≡ of u64s
+  pub kind2 : kindAt 2 ≡ of u32s
+  pub kind3 : kindAt 3 ≡ of f32s
+  pub kind4 : kindAt 4 ≡ of f64s
+  pub kind5 : kindAt 5 ≡ of normalF32s
+  pub kind6 : kindAt 6 ≡ of normalF64s
 
 -- the draws for n places, and the widths in bytes
 pub record Columns (n : ℕ) : Type 0 where
-  pub draws1 : drawsFor u64s n ≡ roundUp n 8
-  pub draws2 : drawsFor u32s n ≡ roundUp n 16
-  pub draws3 : drawsFor f32s n ≡ roundUp n 16
-  pub draws4 : drawsFor f64s n ≡ roundUp n 8
-  pub draws5 : drawsFor normalF32s n ≡ roundUp n 16
-  pub draws6 : drawsFor normalF64s n ≡ 2 * roundUp n 16
-  pub width1 : u64s .width ≡ 8
-  pub width2 : u32s .width ≡ 4
-  pub width3 : f32s .width ≡ 4
-  pub width4 : f64s .width ≡ 8
-  pub width5 : normalF32s .width ≡ 4
-  pub width6 : normalF64s .width ≡ 8
+  pub draws1 : drawsFor (kindAt 1 .kind) n ≡ roundUp n 8
+  pub draws2 : drawsFor (kindAt 2 .kind) n ≡ roundUp n 16
+  pub draws3 : drawsFor (kindAt 3 .kind) n ≡ roundUp n 16
+  pub draws4 : drawsFor (kindAt 4 .kind) n ≡ roundUp n 8
+  pub draws5 : drawsFor (kindAt 5 .kind) n ≡ roundUp n 16
+  pub draws6 : drawsFor (kindAt 6 .kind) n ≡ 2 * roundUp n 16
+  pub width1 : kindAt 1 .kind .width ≡ 8
+  pub width2 : kindAt 2 .kind .width ≡ 4
+  pub width3 : kindAt 3 .kind .width ≡ 4
+  pub width4 : kindAt 4 .kind .width ≡ 8
+  pub width5 : kindAt 5 .kind .width ≡ 4
+  pub width6 : kindAt 6 .kind .width ≡ 8
 
 abbrev pub DrawsAndWidths : Type 0
 DrawsAndWidths = (n : ℕ) → Columns n
@@ -88,7 +125,7 @@ pub record Judged (k n : ℕ) : Type 0 where
   pub accepts : 1 ≤ k → k ≤ length kinds → n % kindAt k .kind .width ≡ 0 → refusalOf k n ≡ 0
   pub below : k < 1 → refusalOf k n ≡ 4
   pub above : length kinds < k → refusalOf k n ≡ 4
-  pub length : 1 ≤ k → k ≤ length kinds → (n % kindAt k .kind .width ≡ 0 → ⊥) → refusalOf k n ≡ 5
+  pub uneven : 1 ≤ k → k ≤ length kinds → (n % kindAt k .kind .width ≡ 0 → ⊥) → refusalOf k n ≡ 5
 
 abbrev pub Refusals : Type 0
 Refusals = (k n : ℕ) → Judged k n
