@@ -3,7 +3,7 @@ use mathlib.Core.Bool.{Bool, true, false, cond, _&&_}
 use mathlib.Core.List.{List, [], _∷_, _++_, map}
 use mathlib.Core.Path.{_≡_, refl, sym, ap, ap₂, _∙_}
 use Prim.Native.Nat.{ℕ, zero, suc, _+_, _*_, _/_, _%_, _^_, _<_, _≤_}
-use native.Mathlib.Nat.{not-suc-le-zero, le-of-suc-le-suc, div-eq-of-eq-mul-left, div-lt-iff-lt-mul, mul-suc, mul-le-mul-left}
+use native.Mathlib.Nat.{not-suc-le-zero, le-of-suc-le-suc, div-eq-of-eq-mul-left, div-lt-iff-lt-mul, div-div-eq-div-mul, mul-suc, mul-comm, mul-le-mul-left, pow-suc}
 use native.Mathlib.Omega.{arith}
 use borrow.Author.Tests.{ltb-true, ltb-false, leb-true, eqb-true, le-leb, lt-leb, eq-eqb, ne-eqb}
 use lib.Dec.{ltb, leb, eqb}
@@ -11,18 +11,20 @@ use lib.Ieee.{Float, Format, binary32, binary64}
 use lib.ListN.{length, getD, length-map, List·getD-append}
 use lib.Seq.{getD-append-add}
 use Rattle.base.specs.Engine.{wordsFrom}
-use Rattle.base.specs.Bytes.{flat}
+use Rattle.base.specs.Bytes.{leBytes, flat}
 use Rattle.base.specs.Iterate.{iterate}
 use Rattle.base.specs.Table.{table}
-use Rattle.base.proofs.Table.{table-same}
+use Rattle.base.proofs.Bytes.{length-leBytes, getD-flat}
+use Rattle.base.proofs.Table.{length-table, getD-table, placed, table-same}
 use Rattle.base.specs.Zip.{zipWith}
 use Rattle.floats.specs.patterns.Numbers as numbers
 use Rattle.floats.specs.units.Unit.{unit, oneMinusUnit}
 use Rattle.math.specs.BoxMuller.{cosHalf, sinHalf}
 use Rattle.fills.specs.Fill.{Kind, roundUp, drawsFor, element}
-use Rattle.fills.specs.Kinds.{lows, highs, u32s, normalsOf, kindAt}
+use Rattle.fills.specs.Kinds.{lows, highs, u64s, u32s, f32s, f64s, normalsOf, normalF32s, normalF64s, kindAt}
 use Rattle.fills.specs.FillBytes.{bytesOf, refusalOf, elements, bytesWritten, bytesDraws}
-use Rattle.fills.specs.Claims.{byHalf, Row1, Row2, Row3, Row4, Row5, Row6, KindNumbers, DrawsAndWidths, SixKinds, Refusals, BytesOfTheFill, AgreeBelow, OnlyItsDraws}
+use Rattle.fills.specs.Claims.{byHalf, u64At, u32At, f32At, f64At, normalF32At, normalF64At, Row, Row1, Row2, Row3, Row4, Row5, Row6, KindNumbers, DrawsAndWidths, SixKinds}
+use Rattle.fills.specs.Claims.{Refusals, BytesOfTheFill, Places, PlacesOfRows, BytePlaces, BytesOfRows, AgreeBelow, OnlyItsDraws}
 use Rattle.fills.proofs.Filling.{Sound}
 use Rattle.fills.proofs.Rounding.{round-covers}
 use Rattle.fills.proofs.Sounds.{halves-long, length-zip, row}
@@ -207,6 +209,53 @@ bytes-of-the-fill G E k g gᵇ gᵗ before after old new dᵇ dᵗ B T long =
       draws,
       B .state ∙ ap (λ (m : ℕ). iterate (E .next) m g) draws ∙ sym (T .state),
     )
+
+-- ---- place by place
+places : {A : Type 0} (says : (ℕ → List ℕ) → ℕ → A) (K : Kind A) → Row says K → Places says K
+places says K is words h n after e k l = placed n (K .blank) (element K words) e k l ∙ is words h k
+
+pub places-of-rows : PlacesOfRows
+unfolding kindAt
+places-of-rows =
+    record {
+      u64 = places u64At u64s row-1;
+      u32 = places u32At u32s row-2;
+      f32 = places f32At f32s row-3;
+      f64 = places f64At f64s row-4;
+      normalF32 = places normalF32At normalF32s row-5;
+      normalF64 = places normalF64At normalF64s row-6;
+    }
+
+byte-of : (n x j : ℕ) → j < n → getD (leBytes n x) j 0 ≡ x / 256 ^ j % 256
+byte-of zero x j h = absurd (not-suc-le-zero h)
+byte-of (suc n) x zero h = omega arith
+byte-of (suc n) x (suc j) h =
+    byte-of n (x / 256) j (le-of-suc-le-suc h)
+    ∙ ap (λ (y : ℕ). y % 256) (div-div-eq-div-mul x 256 (256 ^ j) ∙ ap (λ (y : ℕ). x / y) (mul-comm 256 (256 ^ j) ∙ sym (pow-suc 256 j)))
+
+byte-places : (number : ℕ) (says : (ℕ → List ℕ) → ℕ → kindAt number .Element) → Row says (kindAt number .kind)
+    → BytePlaces says (kindAt number .kind .bits) number (kindAt number .kind .width)
+unfolding bytesWritten
+byte-places number says is words h n after e k j l b =
+    let K = kindAt number .kind in
+    let f : ℕ → kindAt number .Element = element K words in
+    let m : ℕ = elements number n in
+    ap (λ (t : List ℕ). getD t (k * K .width + j) 0) e
+    ∙ getD-flat (bytesOf K) (K .width) (λ x. length-leBytes (K .width) (K .bits x)) (table m f) k j (K .blank) (omega (arith, length-table m f)) b
+    ∙ ap (λ (x : kindAt number .Element). getD (bytesOf K x) j 0) (getD-table m f k (K .blank) l ∙ is words h k)
+    ∙ byte-of (K .width) (K .bits (says words k)) j b
+
+pub bytes-of-rows : BytesOfRows
+unfolding kindAt
+bytes-of-rows =
+    record {
+      bytes1 = byte-places 1 u64At row-1;
+      bytes2 = byte-places 2 u32At row-2;
+      bytes3 = byte-places 3 f32At row-3;
+      bytes4 = byte-places 4 f64At row-4;
+      bytes5 = byte-places 5 normalF32At row-5;
+      bytes6 = byte-places 6 normalF64At row-6;
+    }
 
 -- ---- the draws that a fill depends on
 -- the group of a place is one of those that n places begin

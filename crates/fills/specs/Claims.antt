@@ -5,7 +5,7 @@ use mathlib.Core.List.{List}
 use mathlib.Core.Path.{_≡_}
 use Prim.Native.Nat.{ℕ, _+_, _-_, _*_, _/_, _%_, _^_, _<_, _≤_}
 use lib.Dec.{ltb}
-use lib.Ieee.{Float, binary32, binary64}
+use lib.Ieee.{Float, binary32, binary64, toBits}
 use lib.ListN.{length, getD}
 use Rattle.base.specs.Engine.{Engine}
 use Rattle.base.specs.Bytes.{flat}
@@ -138,6 +138,34 @@ BytesOfTheFill =
     → FilledBytes E k g before after 0 dᵇ gᵇ → Filled E (kindAt k .kind) g old new dᵗ gᵗ
     → length before ≡ length old * kindAt k .kind .width
     → (after ≡ flat (bytesOf (kindAt k .kind)) new) × (dᵇ ≡ dᵗ) × (gᵇ ≡ gᵗ)
+
+-- ---- a fill's slice, place by place: `after` is what `writes` of a fill's promise says, and its place k holds element k of the row
+abbrev pub Places : {A : Type 0} → ((ℕ → List ℕ) → ℕ → A) → Kind A → Type 0
+Places {A} says K =
+    (words : ℕ → List ℕ) → Eights words → (n : ℕ) (after : List A) → after ≡ table n (element K words)
+    → (k : ℕ) → k < n → getD after k (K .blank) ≡ says words k
+
+pub record PlacesOfRows : Type 0 where
+  pub u64 : Places u64At u64s
+  pub u32 : Places u32At u32s
+  pub f32 : Places f32At f32s
+  pub f64 : Places f64At f64s
+  pub normalF32 : Places normalF32At normalF32s
+  pub normalF64 : Places normalF64At normalF64s
+
+-- the same of a byte fill of a number: byte j of element k, the lowest first, stands at k * width + j
+abbrev pub BytePlaces : {A : Type 0} → ((ℕ → List ℕ) → ℕ → A) → (A → ℕ) → ℕ → ℕ → Type 0
+BytePlaces says bits number width =
+    (words : ℕ → List ℕ) → Eights words → (n : ℕ) (after : List ℕ) → after ≡ bytesWritten number words n
+    → (k j : ℕ) → k < n / width → j < width → getD after (k * width + j) 0 ≡ bits (says words k) / 256 ^ j % 256
+
+pub record BytesOfRows : Type 0 where
+  pub bytes1 : BytePlaces u64At (λ x. x) 1 8
+  pub bytes2 : BytePlaces u32At (λ x. x) 2 4
+  pub bytes3 : BytePlaces f32At (toBits binary32) 3 4
+  pub bytes4 : BytePlaces f64At (toBits binary64) 4 8
+  pub bytes5 : BytePlaces normalF32At (toBits binary32) 5 4
+  pub bytes6 : BytePlaces normalF64At (toBits binary64) 6 8
 
 -- ---- a fill depends on no draw at or past its count: two streams of words that agree on its draws give the same elements and the same bytes
 abbrev pub AgreeBelow : ℕ → (ℕ → List ℕ) → (ℕ → List ℕ) → Type 0
