@@ -1,3 +1,4 @@
 pub mod Host
 pub mod Xoshiro
 pub mod Philox
+pub mod Claims

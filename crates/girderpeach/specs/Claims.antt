@@ -1,0 +1,76 @@
+-- What the calls of the library answer, and exactly when: the refusals both ways, the lowest number first (the scope document, "What the
+-- calls refuse"). Each claim is proved in proofs/Theorems.antt.
+use mathlib.Core.Bool.{true}
+use mathlib.Core.List.{List, [], _∷_}
+use mathlib.Core.Logic.{_↔_}
+use mathlib.Core.Path.{_≡_}
+use Prim.Native.Nat.{ℕ, _%_, _<_, _≤_}
+use lib.IntN.{ℤ, pos}
+use lib.ListN.{length, getD}
+use Rattle.fills.specs.FillBytes.{bytesDraws}
+use Rattle.fills.specs.Kinds.{kindAt}
+use Rattle.philox.specs.x8.Machine.{leftOf}
+use Rattle.saved.specs.fields.Fields.{fields}
+use Rattle.saved.specs.philox4x32.Form as philox-form
+use Rattle.saved.specs.philox4x32.Form.{markIn, waitingIn}
+use Rattle.saved.specs.xoshiro256pp.Form as xoshiro-form
+use Rattle.saved.specs.xoshiro256pp.Form.{laneIn}
+use Rattle.xoshiro.specs.scalar.Calls.{stateOf}
+use Rattle.xoshiro.specs.scalar.Xoshiro256pp.{allZero}
+use Rattle.girderpeach.specs.Host.{answerOf}
+use Rattle.girderpeach.specs.Philox as philox
+use Rattle.girderpeach.specs.Xoshiro as xoshiro
+
+-- a refusal: its number, and when it applies
+pub data Refusal : Type 1 where
+  refusal : (number : ℕ) (applies : Type 0) → Refusal
+
+-- minus n, for a number n above 0
+abbrev pub minus : ℕ → ℤ
+minus n = answerOf n 0
+
+-- The answer is minus the number of the first refusal that applies, and exactly then; and it is the value, 0 or more, where none does.
+abbrev pub Answers : ℤ → ℕ → List Refusal → Type 0
+Answers answer value [] = answer ≡ pos value
+Answers answer value (refusal n C ∷ rest) = ((answer ≡ minus n) ↔ C) × ((C → ⊥) → Answers answer value rest)
+
+-- ---- what is refused
+-- 1: a form has another length than n
+abbrev pub wrongLength : ℕ → List ℕ → Refusal
+wrongLength n form = refusal 1 (length form ≡ n → ⊥)
+
+-- 3: some lane of a form has four zero words
+abbrev pub zeroLane : List ℕ → Refusal
+zeroLane form = refusal 3 ((i : ℕ) × (i < 8) × (allZero (stateOf (laneIn (fields xoshiro-form.layout form) i)) ≡ true))
+
+-- 2: the mark of a form isn't 1, and if it is 0, some word that would wait isn't zero
+abbrev pub wrongMark : List ℕ → Refusal
+wrongMark form =
+    let f = fields philox-form.layout form in
+    refusal 2 ((markIn f ≡ 1 → ⊥) × (markIn f ≡ 0 → (i : ℕ) × (i < 8) × (getD (waitingIn f) i 0 ≡ 0 → ⊥)))
+
+-- 4: a kind is outside 1 to 6; 5: the output's length isn't a multiple of the kind's width
+abbrev pub noKind : ℕ → Refusal
+noKind k = refusal 4 ((1 ≤ k) × (k ≤ 6) → ⊥)
+
+abbrev pub noMultiple : ℕ → List ℕ → Refusal
+noMultiple k out = refusal 5 (length out % kindAt k .kind .width ≡ 0 → ⊥)
+
+-- ---- the claims, one for each engine. A fill answers its draws, the draws left are answered, and other calls answer 0.
+pub record XoshiroRefusals : Type 0 where
+  pub new : (seed block : ℕ) (form : List ℕ) (jumps : ℕ) (answer : ℤ) (form′ : List ℕ) (jumps′ : ℕ)
+      → xoshiro.New seed block form jumps answer form′ jumps′ → Answers answer 0 (wrongLength 256 form ∷ [])
+  pub fill : (form : List ℕ) (k : ℕ) (out : List ℕ) (answer : ℤ) (form′ out′ : List ℕ) → xoshiro.Filled form k out answer form′ out′
+      → Answers answer (bytesDraws k (length out)) (wrongLength 256 form ∷ zeroLane form ∷ noKind k ∷ noMultiple k out ∷ [])
+  pub jump-blocks : (n : ℕ) (form : List ℕ) (jumps : ℕ) (answer : ℤ) (form′ : List ℕ) (jumps′ : ℕ)
+      → xoshiro.JumpedBlocks n form jumps answer form′ jumps′ → Answers answer 0 (wrongLength 256 form ∷ zeroLane form ∷ [])
+
+pub record PhiloxRefusals : Type 0 where
+  pub new : (seed stream : ℕ) (form : List ℕ) (answer : ℤ) (form′ : List ℕ) → philox.New seed stream form answer form′
+      → Answers answer 0 (wrongLength 96 form ∷ [])
+  pub fill : (form : List ℕ) (k : ℕ) (out : List ℕ) (answer : ℤ) (form′ out′ : List ℕ) → philox.Filled form k out answer form′ out′
+      → Answers answer (bytesDraws k (length out)) (wrongLength 96 form ∷ wrongMark form ∷ noKind k ∷ noMultiple k out ∷ [])
+  pub seek : (n : ℕ) (form : List ℕ) (answer : ℤ) (form′ : List ℕ) → philox.Sought n form answer form′
+      → Answers answer 0 (wrongLength 96 form ∷ wrongMark form ∷ [])
+  pub draws-left : (form : List ℕ)
+      → Answers (philox.drawsLeft form) (leftOf (philox-form.loaded form .rng)) (wrongLength 96 form ∷ wrongMark form ∷ [])
