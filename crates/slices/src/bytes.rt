@@ -1,7 +1,7 @@
 // Words and halves as little-endian bytes, stored in a slice; words read from one.
 ghost use mathlib.Core.List.{_++_};
 ghost use mathlib.Core.Path.{_≡_};
-ghost use Prim.Native.Nat.{_+_, _-_, _<_, _≤_, min};
+ghost use Prim.Native.Nat.{_+_, _-_, _*_, _^_, _<_, _≤_, min};
 ghost use lib.ListN.{length, take, drop};
 ghost use Rattle.base.specs.Bytes.{leBytes, leNat, flat};
 ghost use Rattle.base.specs.Stored.{stored};
@@ -31,7 +31,7 @@ pub fn le8(x: u64) -> [u8; 8]
 
 // Two halves as a word of the same bytes.
 pub fn pair(lo: u32, hi: u32) -> u64
-    ensures { λ r. ⌜ leBytes 8 r ≡ leBytes 4 lo ++ leBytes 4 hi ⌝ }
+    ensures { λ r. ⌜ (r ≡ lo + 2 ^ 32 * hi) × (leBytes 8 r ≡ leBytes 4 lo ++ leBytes 4 hi) ⌝ }
 {
     words::join(lo, hi)
 }

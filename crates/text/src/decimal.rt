@@ -5,7 +5,7 @@ ghost use lib.Dec.{leb};
 ghost use lib.ListN.{length};
 ghost use Rattle.base.specs.Put.{Put, given};
 ghost use Rattle.text.specs.decimal.Decimal.{decimal, padded};
-ghost use Rattle.text.specs.decimal.Long.{Is, valueOf, fitting};
+ghost use Rattle.text.specs.decimal.Long.{longOf, valueOf, fitting};
 ghost use Rattle.text.specs.decimal.Number.{extends, numberAt};
 
 // What reading a number finds: its value, and the place behind the byte that ends it.
@@ -144,7 +144,7 @@ pub struct Long {
 
 // The sum of two numbers, in full.
 pub fn sum(a: u64, b: u64) -> Long
-    ensures { λ r. ⌜ Is (a + b) r ⌝ }
+    ensures { λ r. ⌜ r ≡ longOf (a + b) ⌝ }
 {
     let low = a % 1_000_000_000_000_000_000 + b % 1_000_000_000_000_000_000;
     let high = a / 1_000_000_000_000_000_000 + b / 1_000_000_000_000_000_000;

@@ -2,7 +2,8 @@
 use mathlib.Core.Bool.{Bool, true, false, _&&_}
 use mathlib.Core.List.{List, [], _∷_, _++_, append-assoc, append-nil}
 use mathlib.Core.Path.{_≡_, refl, sym, ap, subst, _∙_}
-use Prim.Native.Nat.{ℕ, zero, suc, _+_, _-_, _/_, _%_, _^_, _≤_, _<_}
+use Prim.Native.Nat.{ℕ, zero, suc, _+_, _-_, _*_, _/_, _%_, _^_, _≤_, _<_}
+use native.Mathlib.Nat.{div-add-mod'}
 use native.Mathlib.Omega.{arith}
 use lib.Dec.{leb}
 use lib.ListN.{length, set, length-append}
@@ -13,7 +14,7 @@ use Rattle.base.specs.Put.{Put, given}
 use Rattle.base.specs.Stored.{stored}
 use Rattle.text.specs.decimal.Decimal.{decimal, lastDigits, padded}
 use Rattle.text.specs.declared.decimal.Long.{Long}
-use Rattle.text.specs.decimal.Long.{valueOf, Is, fitting}
+use Rattle.text.specs.decimal.Long.{valueOf, longOf, fitting}
 use Rattle.text.proofs.decimal.Decimal.{length-last, length-padded, decimal-padded, decimal-split}
 
 -- ---- bytes written from the last to the first
@@ -135,9 +136,18 @@ module _ (w : Long) (below : w .low < 10 ^ 18) where
 pub long-refused : (w : Long) (at : ℕ) (x : List ℕ) → 10 ^ 18 ≤ w .low → Put (given (fitting w at (length x)) (decimal (valueOf w))) at x x at
 long-refused w at x h = given-no _ at x (ap (λ (t : Bool). t && leb (at + length (decimal (valueOf w))) (length x)) (le-ltb (w .low) (10 ^ 18) h))
 
+-- the two parts of a number
+pub long-of : {n high low : ℕ} → high * 10 ^ 18 + low ≡ n → low < 10 ^ 18 → _≡_ {A = Long} (record { high = high; low = low }) (longOf n)
+long-of {n} {high} {low} e h =
+    let eh : high ≡ n / 10 ^ 18 = omega arith in
+    let el : low ≡ n % 10 ^ 18 = omega arith in
+    λ i. record { high = eh i; low = el i }
+
 -- a number that is held in two parts is written where it has room
-pub long-held : {n at r : ℕ} {l l′ : List ℕ} (w : Long) → Is n w → at + length (decimal n) ≤ length l → Put (given (fitting w at (length l)) (decimal (valueOf w))) at l l′ r → Put (decimal n) at l l′ r
+pub long-held : (n : ℕ) {at r : ℕ} {l l′ : List ℕ} (w : Long) → w ≡ longOf n → at + length (decimal n) ≤ length l → Put (given (fitting w at (length l)) (decimal (valueOf w))) at l l′ r → Put (decimal n) at l l′ r
 unfolding given
-long-held {n} {at} {r} {l} {l′} w i h p =
-    let e : leb (at + length (decimal (valueOf w))) (length l) ≡ true = ap (λ (v : ℕ). leb (at + length (decimal v)) (length l)) (i .value) ∙ le-leb (at + length (decimal n)) (length l) h in
-    subst (λ (t : List ℕ). Put t at l l′ r) (ap decimal (i .value)) (rw (tested w (i .low-part) at (length l) true e) at p)
+long-held n {at} {r} {l} {l′} w held h p =
+    let value : valueOf w ≡ n = ap valueOf held ∙ div-add-mod' n (10 ^ 18) in
+    let low : w .low ≡ n % 10 ^ 18 = ap (λ (x : Long). x .low) held in
+    let e : leb (at + length (decimal (valueOf w))) (length l) ≡ true = ap (λ (v : ℕ). leb (at + length (decimal v)) (length l)) value ∙ le-leb (at + length (decimal n)) (length l) h in
+    subst (λ (t : List ℕ). Put t at l l′ r) (ap decimal value) (rw (tested w (omega (arith, low)) at (length l) true e) at p)

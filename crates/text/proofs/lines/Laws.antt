@@ -16,7 +16,7 @@ use Rattle.base.specs.Table.{table}
 use Rattle.base.proofs.Bytes.{length-leBytes, flat-append, le-round}
 use Rattle.base.proofs.Table.{table-append}
 use Rattle.text.specs.decimal.Decimal.{decimal}
-use Rattle.text.specs.decimal.Long.{Is, valueOf, fitting}
+use Rattle.text.specs.decimal.Long.{longOf, valueOf, fitting}
 use Rattle.text.specs.declared.decimal.Long.{Long}
 use Rattle.text.proofs.decimal.Decimal.{decimal-long, length-word}
 use Rattle.text.proofs.decimal.Backward.{long-held}
@@ -161,10 +161,10 @@ lines-of-elements k (x ∷ xs) h =
 sum-short : (a b : ℕ) → a < 2 ^ 64 → b < 2 ^ 64 → length (decimal (a + b)) ≤ 20
 sum-short a b h g = decimal-long 19 (a + b) (omega arith)
 
-module _ {a b at m : ℕ} {l l′ : List ℕ} (w : Long) (ha : a < 2 ^ 64) (hb : b < 2 ^ 64) (held : Is (a + b) w) (room : at + 21 ≤ length l)
+module _ {a b at m : ℕ} {l l′ : List ℕ} (w : Long) (ha : a < 2 ^ 64) (hb : b < 2 ^ 64) (held : w ≡ longOf (a + b)) (room : at + 21 ≤ length l)
     (p : Put (given (fitting w at (length l)) (decimal (valueOf w))) at l l′ m) where
   sum-digits : Put (decimal (a + b)) at l l′ m
-  sum-digits = long-held w held (omega (arith, sum-short a b ha hb)) p
+  sum-digits = long-held (a + b) w held (omega (arith, sum-short a b ha hb)) p
 
   pub sum-room : (m < length l′) × (m + 1 ≤ at + 21)
   sum-room = let n = sum-short a b ha hb in let q = sum-digits in omega (arith, put-length q, q .next)

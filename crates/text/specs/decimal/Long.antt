@@ -1,7 +1,6 @@
 -- Numbers held in two parts, so that a sum of two 64-bit numbers has a place.
 use mathlib.Core.Bool.{Bool, _&&_}
-use mathlib.Core.Path.{_≡_}
-use Prim.Native.Nat.{ℕ, _+_, _*_, _^_, _<_}
+use Prim.Native.Nat.{ℕ, _+_, _*_, _/_, _%_, _^_}
 use lib.Dec.{leb, ltb}
 use lib.ListN.{length}
 use Rattle.text.specs.declared.decimal.Long.{Long}
@@ -11,10 +10,9 @@ use Rattle.text.specs.decimal.Decimal.{decimal}
 abbrev pub valueOf : Long → ℕ
 valueOf w = w .high * 10 ^ 18 + w .low
 
--- w holds n; there is one such w, as its lower part is less than 10 ^ 18
-pub record Is (n : ℕ) (w : Long) : Type 0 where
-  pub value : valueOf w ≡ n
-  pub low-part : w .low < 10 ^ 18
+-- n held: the lower part is less than 10 ^ 18
+abbrev pub longOf : ℕ → Long
+longOf n = record { high = n / 10 ^ 18; low = n % 10 ^ 18 }
 
 -- w's lower part is less than 10 ^ 18, and its digits have room from place at on in a buffer of n bytes
 abbrev pub fitting : Long → (at n : ℕ) → Bool

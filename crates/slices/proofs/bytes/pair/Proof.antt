@@ -7,4 +7,4 @@ use Rattle.slices.proofs.bytes.pair.Statement.{statement}
 use Rattle.slices.proofs.bytes.pair.Tie as tie
 
 pub pair-spec : {M : Type 1} → statement M
-pair-spec = tie.close (tie.spec (λ c κs. search needs) (λ c. ap (leBytes 8) (c .join .ensures) ∙ le-join _ _ (search needs)))
+pair-spec = tie.close (tie.spec (λ c κs. search needs) (λ c. (c .join .ensures, ap (leBytes 8) (c .join .ensures) ∙ le-join _ _ (search needs))))
