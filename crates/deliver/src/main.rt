@@ -1,59 +1,45 @@
-// An order in, its numbers out: deliver ENGINE SEED BLOCK FIRST KIND COUNT [raw].
+// An order in, its numbers out: deliver ENGINE SEED BLOCK FIRST KIND COUNT [raw]. What an order is, what is written and what the closing line says
+// is decided by `order` and by `delivery::parts`, and proved there: here the arguments are taken, and what those functions hand out is written. No
+// contract can say what a program reads or writes, so that a function that only does that promises nothing.
 use delivery::parts;
 use delivery::parts::Delivery;
-use delivery::source;
 use libc::STDERR_FILENO;
 use libc::STDOUT_FILENO;
 use order::Order;
-use text::lines;
 ghost use mathlib.Core.Path.{_≡_};
+ghost use Prim.Native.Nat.{_≤_};
 ghost use lib.ListN.{length};
+ghost use Rattle.fills.specs.Kinds.{kinds};
+ghost use Rattle.order.specs.Claims.{Accepted};
+ghost use Rattle.delivery.specs.parts.Claims.{Reached};
+ghost use Rattle.delivery.specs.parts.Delivery.{begun};
 
 // Whether a write took everything. Where it did not, standard error says why.
-fn told(ok: bool) -> bool {
+fn told(ok: bool) -> bool
+    ensures { λ r. ⌜ r ≡ ok ⌝ }
+{
     if !ok {
         os::fail(b"deliver: standard output");
     }
     ok
 }
 
-// A part of the values to standard output: its bytes, or by way of `text` its lines.
-fn write_part(kind: u64, raw: bool, part: &[u8], text: &mut [u8]) -> bool {
-    if raw {
-        return told(io::write_all(STDOUT_FILENO, part));
-    }
-    let m = lines::put_lines(kind, part, text);
-    // never: it takes a text of less than 25 bytes for each value
-    if m == 0 {
-        return false;
-    }
-    told(io::write_all(STDOUT_FILENO, &text[..m]))
-}
-
-// Part after part, each made in `values`, until all are out or a write fails.
-fn write_parts(d: Delivery, raw: bool, values: &mut [u8], text: &mut [u8]) -> bool {
-    let kind = d.kind;
+// Part after part of a delivery to standard output, until nothing is left or a write fails. Hands back what is left: where a write failed, also the
+// part that it was to write.
+fn write_parts(d: Delivery, values: &mut [u8], out: &mut [u8]) -> Delivery
+    requires { ⌜ (1 ≤ d .kind) × (d .kind ≤ length kinds) × (128 ≤ length (now values)) × (400 ≤ length (now out)) ⌝ }
+    ensures { λ r. ⌜ Reached d r ⌝ }
+{
     let mut rest = d;
     while rest.left > 0 {
-        let part = parts::next_part(rest, values);
+        let part = parts::next_part(rest, values, out);
         let n = part.bytes;
-        // never: it takes a kind that is none, or a small buffer
-        if n == 0 {
-            return false;
-        }
-        if !write_part(kind, raw, &values[..n], text) {
-            return false;
+        if !told(io::write_all(STDOUT_FILENO, &out[..n])) {
+            return rest;
         }
         rest = part.rest;
     }
-    true
-}
-
-// The numbers that an order book keeps: the order's first draw, and the first draw after it. They say that all was delivered.
-fn report(first: u64, draws: u64) {
-    let mut line = io::buffer();
-    let n = lines::put_ends(first, draws, &mut line);
-    io::write_all(STDERR_FILENO, &line[..n]);
+    rest
 }
 
 // 10,240 bytes: at most 2,560 values, whose lines have 64,000 bytes at most, which `io::large_buffer` holds.
@@ -63,24 +49,21 @@ fn small_buffer() -> [u8; 10240]
     [0; 10240]
 }
 
-fn deliver(o: Order) {
-    let source = source::start(o.engine, o.seed, o.block, o.first);
-    let d = Delivery {
-        source,
-        kind: o.kind,
-        left: o.count,
-    };
-    let mut large = io::large_buffer();
-    let mut small = small_buffer();
-    let raw = o.raw;
-    let whole = if raw {
-        write_parts(d, true, &mut large, &mut small)
-    } else {
-        write_parts(d, false, &mut small, &mut large)
-    };
-    if whole {
-        report(o.first, o.draws);
-    }
+// An order's values to standard output. Hands back what is left of them.
+fn deliver(o: Order) -> Delivery
+    requires { ⌜ Accepted o ⌝ }
+    ensures { λ r. ⌜ Reached (begun o) r ⌝ }
+{
+    let mut values = small_buffer();
+    let mut out = io::large_buffer();
+    write_parts(parts::begin(o), &mut values, &mut out)
+}
+
+// The closing line of a delivery, which says that all of it was written: none where something is left.
+fn close(d: Delivery) {
+    let mut line = io::buffer();
+    let n = parts::closing(d, &mut line);
+    io::write_all(STDERR_FILENO, &line[..n]);
 }
 
 fn say(line: &[u8]) {
@@ -164,5 +147,5 @@ fn main() {
     if o.refusal != 0 {
         return refuse(o.refusal);
     }
-    deliver(o);
+    close(deliver(o));
 }

@@ -71,7 +71,14 @@ accepted-at o kind count raw S =
     by-test Fine (eqb k 0) (λ _. not-refused (omega arith)) (λ q.
     by-number Fine (numberAt (2 ^ 64 - 1) 0 count 0) (not-refused (omega arith)) (λ c i v.
     by-test Fine (leb (o .first + _) (lastDraw (o .engine) + 1)) (λ t r.
-    record { engine = S .engine; block = S .block; kind = (some k (eqb-false k 0 q), kind-known kind); draws = refl; end = leb-true _ _ t })
+    record {
+      engine = S .engine;
+      block = S .block;
+      count = omega (arith, number-sound (2 ^ 64 - 1) 0 count 0 c i v .1);
+      kind = (some k (eqb-false k 0 q), kind-known kind);
+      draws = refl;
+      end = leb-true _ _ t;
+    })
     (λ _. not-refused (omega arith))))
   where
     Fine : Order → Type 0

@@ -1,43 +1,35 @@
 -- The claims of specs/claims/Claims.antt.
-use mathlib.Core.List.{[], _++_}
-use mathlib.Core.Path.{_≡_, sym, ap, _∙_}
-use Prim.Native.Nat.{ℕ, _+_, _*_}
-use native.Mathlib.Nat.{zero-div, mul-div-cancel}
+use mathlib.Core.Bool.{Bool, true, _&&_}
+use mathlib.Core.List.{List, _++_}
+use mathlib.Core.Path.{_≡_, sym, ap, _∙_, subst}
+use Prim.Native.Nat.{ℕ, zero, suc, _+_, _-_, _*_, _^_, _<_}
+use native.Mathlib.Nat.{mul-div-cancel}
+use native.Mathlib.Omega.{arith}
 use borrow.Author.Tests.{eq-eqb, le-leb}
-use Rattle.base.proofs.Put.{put-counted}
-use Rattle.base.specs.Put.{given}
-use Rattle.base.specs.Bytes.{flat}
+use lib.Dec.{eqb, leb}
+use lib.ListN.{getD}
 use Rattle.base.specs.Iterate.{iterate}
-use Rattle.base.specs.Table.{table}
+use Rattle.base.specs.Put.{given}
 use Rattle.base.proofs.Iterate.{iterate-then}
 use Rattle.fills.specs.Fill.{drawsFor}
 use Rattle.fills.specs.FillBytes.{bytesDraws}
-use Rattle.fills.specs.Kinds.{kindAt}
+use Rattle.fills.specs.Kinds.{kinds, kindAt, of, u64s}
 use Rattle.fills.proofs.Sounds.{row}
-use Rattle.delivery.specs.source.Source.{nextOf, startOf}
-use Rattle.delivery.specs.parts.Claims.{ByElements, ordered}
-use Rattle.delivery.specs.parts.Delivery.{widthOf}
-use Rattle.delivery.proofs.parts.Theorems.{as-they-are, two-orders, joined, delivered}
-use Rattle.text.specs.lines.Lines.{line, valueAt, linesOf, accepted}
-use Rattle.text.proofs.lines.Theorems.{lines-append}
+use Rattle.text.specs.lines.Lines.{linesOf, endsOf}
 use Rattle.order.specs.Claims.{Accepted}
 use Rattle.order.specs.declared.Order.{Order}
-use Rattle.delivery.specs.claims.Claims.{Lines, Raw, Text, Ends, Resumes, begun, bytesOf}
-
--- lines are written element by element
-by-lines : (k : ℕ) → ByElements (widthOf k) (linesOf k)
-unfolding linesOf flat table
-by-lines k = record { none = ap (λ (n : ℕ). flat (line k) (table n (valueAt (widthOf k) []))) (zero-div (widthOf k)); both = lines-append k }
-
-pub lines : Lines
-unfolding accepted given
-lines k part before after r e h p c = put-counted (rw (eq-eqb _ _ e, le-leb _ _ h) at p) c
+use Rattle.delivery.specs.source.Source.{nextOf, startOf}
+use Rattle.delivery.specs.declared.parts.Delivery.{Delivery}
+use Rattle.delivery.specs.parts.Claims.{Call, restOf, ordered}
+use Rattle.delivery.specs.parts.Delivery.{widthOf, begun, shown, drawsIn, closingOf}
+use Rattle.delivery.proofs.parts.Theorems.{two-orders, joined, stops}
+use Rattle.delivery.specs.claims.Claims.{Whole, Raw, Text, Ends, Closes, Finishes, Resumes, bytesOf}
 
 pub raw : Raw
-raw o calls w = delivered (λ l. l) _ _ _ _ _ _ calls (as-they-are _) (w .run) (w .end)
+raw o calls e w = joined (begun o) calls (w .run) (w .end) .handed ∙ ap (λ (b : Bool). shown b (o .kind) (bytesOf o)) e
 
 pub text : Text
-text o calls w = delivered (linesOf (o .kind)) _ _ _ _ _ _ calls (by-lines (o .kind)) (w .run) (w .end)
+text o calls e w = joined (begun o) calls (w .run) (w .end) .handed ∙ ap (λ (b : Bool). shown b (o .kind) (bytesOf o)) e
 
 -- the order's draws are those of its bytes
 draws-of : (o : Order) → Accepted o → bytesDraws (o .kind) (o .count * widthOf (o .kind)) ≡ o .draws
@@ -46,11 +38,45 @@ draws-of o A = ap (drawsFor (kindAt (o .kind) .kind)) (mul-div-cancel (o .count)
 
 pub ends : Ends
 ends o calls A w =
-    joined (λ l. l) (begun o) calls (as-they-are _) (w .run) (w .end) .1
+    joined (begun o) calls (w .run) (w .end) .source
     ∙ ap (λ (n : ℕ). iterate nextOf n (begun o .source)) (draws-of o A)
     ∙ sym (iterate-then nextOf (o .first) (o .draws) (startOf (o .engine) (o .seed) (o .block)))
 
+-- less than 2^64 places have less than 2^64 draws
+few-at : (i n : ℕ) → n < 2 ^ 64 → drawsFor (getD kinds i (of u64s) .kind) n < 2 ^ 64
+few-at zero n h = omega arith
+few-at (suc zero) n h = omega arith
+few-at (suc (suc zero)) n h = omega arith
+few-at (suc (suc (suc zero))) n h = omega arith
+few-at (suc (suc (suc (suc zero)))) n h = omega arith
+few-at (suc (suc (suc (suc (suc zero))))) n h = omega arith
+few-at (suc (suc (suc (suc (suc (suc i)))))) n h = omega arith
+
+few-draws : (o : Order) → Accepted o → o .draws < 2 ^ 64
+unfolding kindAt
+few-draws o A = subst (λ (n : ℕ). n < 2 ^ 64) (sym (A .draws)) (few-at (o .kind - 1) (o .count) (A .count))
+
+-- the draws that were counted
+counted : (o : Order) (calls : List Call) → Accepted o → Whole o calls → restOf (begun o) calls .draws ≡ o .draws
+counted o calls A w =
+    let d = draws-of o A in
+    let n : ℕ = drawsIn (begun o) (o .count) in
+    omega (arith, joined (begun o) calls (w .run) (w .end) .draws (omega (arith, d, few-draws o A)), d)
+
+pub closes : Closes
+unfolding closingOf given
+closes o calls room A w h =
+    let W = joined (begun o) calls (w .run) (w .end) in
+    let d : Delivery = restOf (begun o) calls in
+    let t : eqb (d .left) 0 && leb 42 room ≡ true = (λ i. eq-eqb (d .left) 0 (w .end) i && le-leb 42 room h i) in
+    let first = W .first in
+    let draws = counted o calls A w in
+    ap (λ (b : Bool). given b (endsOf (d .first) (d .draws))) t ∙ (λ i. endsOf (first i) (draws i))
+
+pub finishes : Finishes
+finishes o calls A r u = omega (arith, stops (begun o) calls (A .kind .0) (A .kind .1) r u)
+
 pub resumes : Resumes
 resumes o n A e =
-    two-orders (λ l. l) (o .engine) (o .seed) (o .block) (o .first) (o .kind) (o .count) n (as-they-are _) e
-    ∙ ap (λ (m : ℕ). bytesOf o ++ ordered (o .engine) (o .seed) (o .block) (o .first + m) (o .kind) n) (draws-of o A)
+    two-orders (o .raw) (o .engine) (o .seed) (o .block) (o .first) (o .kind) (o .count) n e
+    ∙ ap (λ (m : ℕ). shown (o .raw) (o .kind) (bytesOf o) ++ shown (o .raw) (o .kind) (ordered (o .engine) (o .seed) (o .block) (o .first + m) (o .kind) n)) (draws-of o A)

@@ -20,7 +20,7 @@ width-at (suc (suc (suc (suc zero)))) = lit≤ tt
 width-at (suc (suc (suc (suc (suc zero))))) = lit≤ tt
 width-at (suc (suc (suc (suc (suc (suc i)))))) = lit≤ tt
 
-width-most : (k : ℕ) → widthOf k ≤ 8
+pub width-most : (k : ℕ) → widthOf k ≤ 8
 unfolding kindAt
 width-most k = width-at (k - 1)
 
@@ -38,8 +38,8 @@ module _ (n w : ℕ) where
       let least : 1 * q ≤ w * q = mul-le-mul-right q pos in
       omega (arith, least, mul-comm w q, room-bytes)
 
-  room-some : 0 < w → w ≤ 8 → 128 ≤ n → 0 < n / (16 * w)
-  room-some pos most h = go (n / (16 * w)) refl
+  room-some : 0 < w → 16 * w ≤ n → 0 < n / (16 * w)
+  room-some pos h = go (n / (16 * w)) refl
     where
       go : (q : ℕ) → n / (16 * w) ≡ q → 0 < q
       go zero e =
@@ -51,7 +51,7 @@ pub record Fits (k left n p : ℕ) : Type 0 where
   pub few : p ≤ left
   pub room : p * widthOf k ≤ n
   pub whole : (p ≡ left → ⊥) → p % 16 ≡ 0
-  pub some : 1 ≤ k → k ≤ length kinds → 128 ≤ n → 0 < left → 0 < p
+  pub some : 1 ≤ k → k ≤ length kinds → 16 * widthOf k ≤ n → 0 < left → 0 < p
 
 pub fits : (k left n : ℕ) → Fits k left n (placesOf k left n)
 unfolding placesOf
@@ -73,7 +73,7 @@ fits k left n = go (leb 1 k) (leb k (length kinds)) refl refl
           few = omega arith;
           room = omega (arith, least, room-bytes n w);
           whole = λ h. omega arith;
-          some = λ a b c d. omega (arith, room-some n w (row k .wide) (width-most k) c);
+          some = λ a b c d. omega (arith, room-some n w (row k .wide) c);
         }
     go true false e f = none (λ a b. omega (arith, leb-false k (length kinds) f))
     go false b e f = none (λ a c. omega (arith, leb-false 1 k e))

@@ -1,31 +1,36 @@
 -- `delivery::parts::next_part` meets its contract.
-use Prim.Native.Nat.{_^_, _<_}
-use Rattle.delivery.proofs.parts.Made.{part-made}
-use Rattle.delivery.proofs.parts.Room.{bytes-fit}
-use borrow.Author.Needs.{needs}
-use mathlib.Core.Path.{refl, sym}
-use native.Mathlib.Omega.{arith}
-use lib.ListN.{length}
+use mathlib.Core.Path.{sym}
 use lib.Seq.{length-take-le}
+use borrow.Author.Needs.{needs}
+use Rattle.delivery.proofs.parts.Shown.{raw-part, text-part, part-inside}
 use Rattle.delivery.proofs.parts.next_part.Statement.{statement}
 use Rattle.delivery.proofs.parts.next_part.Tie as tie
 
-mul-bytes : tie.Need-mul-bytes
-mul-bytes c =
-    let few : length (c .before .before .before .before .args .out .now) < 2 ^ 64 = search needs in
-    omega (arith, few, bytes-fit _ _ _ _ (c .width .ensures .0) (c .before .places .ensures .2))
-
-slice-relend-prefix-fill-bytes : tie.Need-slice-relend-prefix-fill-bytes
-slice-relend-prefix-fill-bytes c = bytes-fit _ _ _ _ (c .width .ensures .0) (c .before .places .ensures .2)
-
-slice-aggregate-fill-bytes : tie.Need-slice-aggregate-fill-bytes
-slice-aggregate-fill-bytes c = sym (length-take-le _ _ (bytes-fit _ _ _ _ (c .before .width .ensures .0) (c .before .before .places .ensures .2)))
-
 returns : tie.Need-returns
-returns c =
+returns c = raw-part (c .before .before .before .before .if1 .taken) (c .before .before .fill-part .ensures)
+
+slice-aggregate-fill-part : tie.Need-slice-aggregate-fill-part
+slice-aggregate-fill-part c = sym (length-take-le _ _ (c .before .text-room .ensures .1))
+
+slice-reshare-prefix-put-lines : tie.Need-slice-reshare-prefix-put-lines
+slice-reshare-prefix-put-lines c =
     let f = c .before .before .before in
-    let w = f .before .before in
-    part-made (w .before .places .ensures .0) (w .width .ensures .0) refl (f .fill-bytes .ensures)
+    let t = f .before .before in
+    part-inside _ _ (t .before .before .before .before .args .out .now) (t .text-room .ensures .0) (f .fill-part2 .ensures)
+
+slice-aggregate-put-lines : tie.Need-slice-aggregate-put-lines
+slice-aggregate-put-lines c =
+    let f = c .before .before .before .before in
+    let t = f .before .before in
+    sym (length-take-le _ _ (part-inside _ _ (t .before .before .before .before .args .out .now) (t .text-room .ensures .0) (f .fill-part2 .ensures)))
+
+returns-2 : tie.Need-returns-2
+returns-2 c =
+    let p = c .before .before in
+    let f = p .before .before .before .before .before .before in
+    let t = f .before .before in
+    text-part _ _ _ (t .text-room .ensures .0) (f .fill-part2 .ensures) (t .before .if1 .left) (p .put-lines .ensures .0) (p .put-lines .ensures .1)
 
 pub next-part-spec : {M : Type 1} → statement M
-next-part-spec = tie.close (tie.spec (λ c κs. search needs) (λ c κs. search needs) mul-bytes slice-relend-prefix-fill-bytes slice-aggregate-fill-bytes (λ c κs. search needs) (λ c. search needs) (λ c. search needs) returns)
+next-part-spec =
+    tie.close (tie.spec (λ c κs. search needs) (λ c. search needs) returns (λ c κs. search needs) (λ c. search needs) slice-aggregate-fill-part (λ c κs. search needs) slice-reshare-prefix-put-lines slice-aggregate-put-lines (λ c κs. search needs) (λ c. search needs) (λ c. search needs) returns-2)
