@@ -2,7 +2,7 @@
 use mathlib.Core.List.{List, [], _++_, append-nil}
 use mathlib.Core.Path.{_≡_, refl, sym, ap, _∙_, fun-ext}
 use Prim.Native.Nat.{ℕ, zero, suc, _+_, _-_, _*_, _/_, _%_, _<_, _≤_}
-use native.Mathlib.Nat.{add-zero, zero-mul, mul-zero, add-mul, mul-add, mul-assoc, suc-mul, mod-lt, div-add-mod', div-mul-le-self, lt-div-mul-add, div-eq-of-lt-le, div-eq-of-eq-mul-left}
+use native.Mathlib.Nat.{add-zero, zero-mul, mul-zero, add-mul, mul-add, mul-assoc, suc-mul, mod-lt, mul-mod-left, div-add-mod', div-mul-le-self, lt-div-mul-add, div-eq-of-lt-le, div-eq-of-eq-mul-left}
 use native.Mathlib.Numerals.{add-one}
 use native.Mathlib.Omega.{arith}
 use lib.ListN.{length, getD}
@@ -20,7 +20,7 @@ use Rattle.fills.proofs.Bytes.{wide}
 use Rattle.fills.proofs.Filling.{element-at}
 use Rattle.fills.proofs.Rounding.{round-none}
 use Rattle.fills.proofs.Sounds.{row}
-use Rattle.delivery.specs.parts.Delivery.{widthOf}
+use Rattle.delivery.specs.parts.Delivery.{widthOf, groupOf}
 use Rattle.delivery.specs.parts.Claims.{OneFill}
 
 -- ---- any kind: t whole groups, then m places
@@ -70,9 +70,12 @@ whole-at (suc (suc (suc (suc zero)))) = refl
 whole-at (suc (suc (suc (suc (suc zero))))) = refl
 whole-at (suc (suc (suc (suc (suc (suc i)))))) = refl
 
-whole-16 : (k : ℕ) → 16 / kindAt k .kind .places * kindAt k .kind .places ≡ 16
+pub whole-16 : (k n : ℕ) → n % 16 ≡ 0 → n % groupOf k ≡ 0
 unfolding kindAt
-whole-16 k = whole-at (k - 1)
+whole-16 k n h =
+    let p : ℕ = groupOf k in
+    let e : n ≡ n / 16 * (16 / p) * p = sym (mul-assoc (n / 16) (16 / p) p ∙ ap (λ (x : ℕ). n / 16 * x) (whole-at (k - 1)) ∙ omega arith) in
+    ap (λ (x : ℕ). x % p) e ∙ mul-mod-left (n / 16 * (16 / p)) p
 
 -- n places by their bytes
 module _ (k : ℕ) where
@@ -102,12 +105,12 @@ module _ (k : ℕ) where
 
 -- ---- two fills
 module _ {G : Type 0} (E : Engine G) (g : G) (k n : ℕ) where
-  pub whole-then : (m : ℕ) → n % 16 ≡ 0 → OneFill E g k n m
+  pub whole-then : (m : ℕ) → n % groupOf k ≡ 0 → OneFill E g k n m
   whole-then m h =
       let K = kindAt k .kind in
       let some = row k .sound .some in
-      let t : ℕ = n / 16 * (16 / K .places) in
-      let e : n ≡ t * K .places = sym (mul-assoc (n / 16) (16 / K .places) (K .places) ∙ ap (λ (x : ℕ). n / 16 * x) (whole-16 k) ∙ omega arith) in
+      let t : ℕ = n / K .places in
+      let e : n ≡ t * K .places = omega (arith, div-add-mod' n (K .places), h) in
       let b : bytesDraws k (n * widthOf k) ≡ K .draws * t = drawn k n ∙ ap (drawsFor K) e ∙ draws-whole K some t in
       let W : ℕ → List ℕ = wordsFrom E g in
       let W′ : ℕ → List ℕ = λ i. wordsFrom E (iterate (E .next) (bytesDraws k (n * widthOf k)) g) i in

@@ -22,7 +22,7 @@ use Rattle.delivery.specs.declared.source.Source.{Source}
 use Rattle.delivery.specs.parts.Delivery.{widthOf, placesOf, bytesIn, drawsIn, shown, leftAfter, textRoom, nextPlaces, NextPart}
 use Rattle.delivery.specs.parts.Claims.{OneFill, TwoFills, TwoOrders, Call, Step, Run, restOf, handedBy, joinedIn, WholeFill, Joined, Useful, Stops}
 use Rattle.delivery.specs.declared.parts.Delivery.{Delivery}
-use Rattle.delivery.proofs.parts.Joining.{none-drawn, none-written, length-written, whole-then, then-none}
+use Rattle.delivery.proofs.parts.Joining.{none-drawn, none-written, length-written, whole-16, whole-then, then-none}
 use Rattle.delivery.proofs.parts.Room.{Fits, fits}
 use Rattle.delivery.proofs.parts.Shown.{shown-none}
 
@@ -75,7 +75,7 @@ module _ (d : Delivery) (s : Call) (P : Step d s) where
     where
       go : Dec (places ≡ d .left) → OneFill either (d .source) (d .kind) places (d .left - places)
       go (yes e) = subst (OneFill either (d .source) (d .kind) places) (omega arith) (then-none either (d .source) (d .kind) places)
-      go (no h) = whole-then either (d .source) (d .kind) places (d .left - places) (room .whole h)
+      go (no h) = whole-then either (d .source) (d .kind) places (d .left - places) (whole-16 (d .kind) places (room .whole h))
 
   all-places : d .left ≡ places + (d .left - places)
   all-places = omega (arith, room .few)

@@ -8,7 +8,7 @@ use lib.ListN.{length}
 use Rattle.base.specs.Iterate.{iterate}
 use Rattle.base.specs.Lists as lists
 use Rattle.delivery.specs.source.Source.{nextOf, startOf}
-use Rattle.delivery.specs.parts.Delivery.{begun, shown, closingOf}
+use Rattle.delivery.specs.parts.Delivery.{groupOf, begun, shown, closingOf}
 use Rattle.delivery.specs.parts.Claims.{Call, Run, restOf, joinedIn, ordered, Useful}
 use Rattle.text.specs.lines.Lines.{linesOf, endsOf}
 use Rattle.order.specs.Claims.{Accepted}
@@ -44,8 +44,8 @@ Closes = (o : Order) (calls : List Call) (room : ℕ) → Accepted o → Whole o
 abbrev pub Finishes : Type 0
 Finishes = (o : Order) (calls : List Call) → Accepted o → Run (begun o) calls → lists.Each (λ earlier s. Useful (restOf (begun o) earlier) s) calls → length calls ≤ o .count
 
--- an order of n more values is the order, where COUNT is a multiple of 16, and an order of n values with END as its FIRST
+-- an order of n more values is the order, where COUNT is a number of whole groups, and an order of n values with END as its FIRST
 abbrev pub Resumes : Type 0
-Resumes = (o : Order) (n : ℕ) → Accepted o → o .count % 16 ≡ 0
+Resumes = (o : Order) (n : ℕ) → Accepted o → o .count % groupOf (o .kind) ≡ 0
     → shown (o .raw) (o .kind) (ordered (o .engine) (o .seed) (o .block) (o .first) (o .kind) (o .count + n))
     ≡ shown (o .raw) (o .kind) (bytesOf o) ++ shown (o .raw) (o .kind) (ordered (o .engine) (o .seed) (o .block) (o .first + o .draws) (o .kind) n)

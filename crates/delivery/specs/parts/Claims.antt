@@ -10,7 +10,7 @@ use Rattle.base.specs.Lists as lists
 use Rattle.fills.specs.FillBytes.{bytesWritten, bytesDraws}
 use Rattle.fills.specs.Kinds.{kinds, kindAt}
 use Rattle.delivery.specs.source.Source.{nextOf, startOf, either}
-use Rattle.delivery.specs.parts.Delivery.{widthOf, bytesIn, drawsIn, shown, NextPart}
+use Rattle.delivery.specs.parts.Delivery.{widthOf, groupOf, bytesIn, drawsIn, shown, NextPart}
 use Rattle.delivery.specs.declared.parts.Delivery.{Delivery}
 use Rattle.delivery.specs.declared.parts.Part.{Part}
 
@@ -20,18 +20,18 @@ pub record OneFill {G : Type 0} (E : Engine G) (g : G) (k n m : ℕ) : Type 0 wh
       ≡ bytesWritten k (wordsFrom E g) (n * widthOf k) ++ bytesWritten k (wordsFrom E (iterate (E .next) (bytesDraws k (n * widthOf k)) g)) (m * widthOf k)
   pub draws : bytesDraws k ((n + m) * widthOf k) ≡ bytesDraws k (n * widthOf k) + bytesDraws k (m * widthOf k)
 
--- on any engine, where the first has a multiple of 16 places
+-- on any engine, where the first ends with a whole group
 abbrev pub TwoFills : Type 1
-TwoFills = (G : Type 0) (E : Engine G) (g : G) (k n m : ℕ) → n % 16 ≡ 0 → OneFill E g k n m
+TwoFills = (G : Type 0) (E : Engine G) (g : G) (k n m : ℕ) → n % groupOf k ≡ 0 → OneFill E g k n m
 
 -- ---- the bytes of an order: n places of kind k from draw `first` on of an engine's seed and block
 abbrev pub ordered : ℕ → ℕ → ℕ → ℕ → ℕ → ℕ → List ℕ
 ordered engine seed block first k n = bytesWritten k (wordsFrom either (iterate nextOf first (startOf engine seed block))) (n * widthOf k)
 
--- an order of n places, n a multiple of 16, and one of m places that begins where its draws end, written one after the other, are what an
--- order of n + m places writes, as bytes and as lines
+-- an order of n places, whole groups of them, and one of m places that begins where its draws end, written one after the other, are what
+-- an order of n + m places writes, as bytes and as lines
 abbrev pub TwoOrders : Type 0
-TwoOrders = (raw : Bool) (engine seed block first k n m : ℕ) → n % 16 ≡ 0
+TwoOrders = (raw : Bool) (engine seed block first k n m : ℕ) → n % groupOf k ≡ 0
     → shown raw k (ordered engine seed block first k (n + m))
     ≡ shown raw k (ordered engine seed block first k n) ++ shown raw k (ordered engine seed block (first + bytesDraws k (n * widthOf k)) k m)
 

@@ -19,6 +19,10 @@ use Rattle.delivery.specs.declared.parts.Delivery.{Delivery}
 abbrev pub widthOf : ℕ → ℕ
 widthOf k = kindAt k .kind .width
 
+-- the places of a group
+abbrev pub groupOf : ℕ → ℕ
+groupOf k = kindAt k .kind .places
+
 -- ---- where a delivery begins: at draw FIRST of the order's generator, with all COUNT places left and no draw made
 abbrev pub begun : Order → Delivery
 begun o =
