@@ -5,6 +5,7 @@ use mathlib.Core.Path.{_≡_, refl, sym, ap, ap₂, _∙_}
 use Prim.Native.Nat.{ℕ, suc, _%_, _<_, _≤_}
 use native.Mathlib.Decide.{decLe, ℕ-discrete}
 use native.Mathlib.Omega.{arith}
+use borrow.Author.Tests.{ne-eqb, le-leb}
 use lib.IntN.{ℤ}
 use lib.ListN.{length}
 use Rattle.fills.specs.FillBytes.{refusalOf}
@@ -105,10 +106,14 @@ module _ (k : ℕ) (out : List ℕ) where
     | no a ↦ fills.refusals k (length out) .below (omega arith)
   ]
 
+  uneven : 1 ≤ k → k ≤ 6 → (length out % kindAt k .kind .width ≡ 0 → ⊥) → refusalOf k (length out) ≡ 5
+  unfolding refusalOf
+  uneven a b z = simp (le-leb 1 k a, le-leb k 6 b, ne-eqb (length out % kindAt k .kind .width) 0 z)
+
   kind-number : (d : Dec ((1 ≤ k) × (k ≤ 6) → ⊥)) (e : Dec (length out % kindAt k .kind .width ≡ 0 → ⊥))
       → refusalOf k (length out) ≡ lowest (noKind k ∷ noMultiple k out ∷ []) (d, (e, tt))
   kind-number (yes h) e = outside h
-  kind-number (no h) (yes q) = let t = stable in-table h in fills.refusals k (length out) .length (t .0) (t .1) q
+  kind-number (no h) (yes q) = let t = stable in-table h in uneven (t .0) (t .1) q
   kind-number (no h) (no q) = let t = stable in-table h in fills.refusals k (length out) .accepts (t .0) (t .1) (stable is-multiple q)
 
 -- ---- a call on a form that has the refusals 1 and b, and a fill of it

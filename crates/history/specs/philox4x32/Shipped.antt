@@ -1,5 +1,5 @@
--- The lists are lists of calls of the functions that ship: for each public function that makes a Philox generator, moves it or draws from
--- it, what a caller learns from its own contract is its call's step in a list, and it asks nothing.
+-- The lists are lists of calls of the functions that ship: for each constructor from a seed, and each public function that moves a Philox
+-- generator or draws from it, what a caller learns from its own contract is its call's step in a list, and it asks nothing.
 use mathlib.Core.Path.{_≡_}
 use Prim.Native.Nat.{_-_, _^_, _<_, min}
 use contract.Lifetimes.{Lfts}
