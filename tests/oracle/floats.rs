@@ -1,6 +1,7 @@
 //! Our float calls, linked as a static library, against the Rust's: the same bits for the same bits, at every lane. Inputs are random
 //! patterns of each call's domain, patterns with one lane of any kind, and every boundary at every lane; what a call should
-//! refuse is told here from the fields of the pattern. The argument is how many random lanes each function gets.
+//! refuse is told here from the fields of the pattern. The argument is how many random lanes each function gets; or `answers`, which reads
+//! the lanes of lanes.txt and writes them with the Rust's results.
 mod common;
 use common::Random;
 use tpt_simd_rng::{math, u32_to_unit_f32, u64_to_unit_f64};
@@ -173,18 +174,24 @@ macro_rules! compared {
             ];
 
             impl Call {
+                /// The refusal's number or 0, and the results.
+                fn expected(&self, x: &[[$bits; 8]; 2]) -> (u64, [Lanes; 2]) {
+                    if self.domains.iter().zip(x).all(|(domain, lanes)| lanes.iter().all(|&b| domain(b))) {
+                        (0, (self.rust)(&[floats(&x[0]), floats(&x[1])]))
+                    } else {
+                        (self.number, [[0.0; 8]; 2])
+                    }
+                }
+
                 fn check(&self, x: &[[$bits; 8]; 2], count: &mut Count) {
-                    let accepted = self.domains.iter().zip(x).all(|(domain, lanes)| lanes.iter().all(|&b| domain(b)));
-                    let input = [floats(&x[0]), floats(&x[1])];
                     let mut out = [[7.0; 8]; 2]; // so that a result left unwritten shows
-                    let refusal = (self.ours)(&input, &mut out);
-                    let (number, expected) = if accepted {
+                    let refusal = (self.ours)(&[floats(&x[0]), floats(&x[1])], &mut out);
+                    let (number, expected) = self.expected(x);
+                    if number == 0 {
                         count.lanes += 8;
-                        (0, (self.rust)(&input))
                     } else {
                         count.refused += 1;
-                        (self.number, [[0.0; 8]; 2])
-                    };
+                    }
                     if refusal != number || (0..self.results).any(|k| bits(&out[k]) != bits(&expected[k])) {
                         count.differ(format!("{} of {x:x?}: {refusal} {out:?}, not {number} {expected:?}", self.name));
                     }
@@ -198,6 +205,18 @@ macro_rules! compared {
                         }
                     }
                     x
+                }
+
+                /// Writes eight lanes, one a line: the call, the refusal's number or 0, the arguments, and the Rust's results or zero bits.
+                fn write(&self, x: &[[$bits; 8]; 2]) {
+                    let (number, results) = self.expected(x);
+                    for lane in 0..8 {
+                        print!("{} {number}", self.name);
+                        for numbers in x[..self.domains.len()].iter().chain(&results.map(|lanes| bits(&lanes))[..self.results]) {
+                            print!(" {:0digits$x}", numbers[lane], digits = $width / 4);
+                        }
+                        println!();
+                    }
                 }
 
                 fn run(&self, lanes: u64, random: &mut Random) -> u64 {
@@ -249,6 +268,18 @@ macro_rules! compared {
                 count.report(concat!(stringify!($unit), ", and 1 less it")) + pairs.report(concat!(stringify!($bm), " of these"))
             }
 
+            /// Writes the lines of eight lanes of a call, if it is one of these.
+            pub fn answers(lines: &[Vec<&str>]) {
+                let Some(call) = CALLS.iter().find(|call| call.name == lines[0][0]) else { return };
+                let mut x = [[ONE; 8]; 2];
+                for (lane, line) in lines.iter().enumerate() {
+                    for which in 0..call.domains.len() {
+                        x[which][lane] = <$bits>::from_str_radix(line[2 + which], 16).expect("a pattern");
+                    }
+                }
+                call.write(&x);
+            }
+
             pub fn run(lanes: u64, random: &mut Random) -> u64 {
                 let mut differences = 0;
                 for call in &CALLS {
@@ -278,7 +309,17 @@ compared!(
 );
 
 fn main() {
-    let lanes = std::env::args().nth(1).and_then(|n| n.parse().ok()).expect("how many random lanes a function");
+    let argument = std::env::args().nth(1).expect("how many random lanes a function, or answers");
+    if argument == "answers" {
+        let text = std::io::read_to_string(std::io::stdin()).expect("standard input");
+        let lines: Vec<Vec<&str>> = text.lines().map(|line| line.split(' ').collect()).collect();
+        for eight in lines.chunks(8) {
+            single::answers(eight);
+            double::answers(eight);
+        }
+        return;
+    }
+    let lanes = argument.parse().expect("how many random lanes a function");
     let random = &mut Random(20_260_101);
     let differences = single::run(lanes, random) + double::run(lanes, random);
     std::process::exit(i32::from(differences != 0));

@@ -97,8 +97,8 @@ fn published() {
     );
 }
 
-// The published vectors again, on the code that fills are made of. From lanes that are all (1, 2, 3, 4) each draw has an output eight times:
-// the one of draw j is read from lane j modulo 8.
+// The published vectors again, on the code that fills are made of. From lanes that are all (1, 2, 3, 4) each draw has an output eight
+// times: the one of draw j is read from lane j modulo 8.
 fn ten_outputs(words: &[u64; 128]) {
     for j in 0..10 {
         decimal(words[j * 8 + j % 8]);
@@ -126,8 +126,8 @@ fn put_halves(words: &[u64], place: usize) {
     }
 }
 
-// The first of eight blocks: its lower word is in one draw, its upper word in the next. In a fill of both draws, which are made at once, and
-// in two fills of one draw each.
+// The first of eight blocks: its lower word is in one draw, its upper word in the next. In a fill of both draws, which are made at once,
+// and in two fills of one draw each.
 fn published_philox_filled(block: u64, stream: u64, key: u64) {
     let rng = Philox4x32X8::new(key, stream).seek(block);
     let mut both = [0u64; 16];

@@ -19,7 +19,8 @@ StepCommutes = (p : List ℕ) (s : State) → jumped p (step s) ≡ step (jumped
 
 -- and so do runs of them, of any lengths
 abbrev pub RunsCommute : Type 0
-RunsCommute = (p q : List ℕ) (m n : ℕ) (s : State) → iterate (jumped p) m (iterate (jumped q) n s) ≡ iterate (jumped q) n (iterate (jumped p) m s)
+RunsCommute = (p q : List ℕ) (m n : ℕ) (s : State)
+    → iterate (jumped p) m (iterate (jumped q) n s) ≡ iterate (jumped q) n (iterate (jumped p) m s)
 
 abbrev pub StepsCommute : Type 0
 StepsCommute = (p : List ℕ) (m n : ℕ) (s : State) → iterate (jumped p) m (steps n s) ≡ steps n (iterate (jumped p) m s)
