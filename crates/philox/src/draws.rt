@@ -37,9 +37,9 @@ fn round(c: [u64; 4], k0: u32, k1: u32) -> [u64; 4]
     let p1 = M1 * c[2];
     [
         (p1 >> 32) ^ c[1] ^ (k0 as u64),
-        p1 % 0x1_0000_0000,
+        p1 & 0xffff_ffff,
         (p0 >> 32) ^ c[3] ^ (k1 as u64),
-        p0 % 0x1_0000_0000,
+        p0 & 0xffff_ffff,
     ]
 }
 
@@ -47,12 +47,7 @@ fn round(c: [u64; 4], k0: u32, k1: u32) -> [u64; 4]
 fn block(key0: u32, key1: u32, stream: u64, n: u64) -> Halves
     ensures { λ r. ⌜ (r .lower ≡ lowerOf (blockOf key0 key1 stream n)) × (r .upper ≡ upperOf (blockOf key0 key1 stream n)) ⌝ }
 {
-    let mut c = [
-        n % 0x1_0000_0000,
-        n >> 32,
-        stream % 0x1_0000_0000,
-        stream >> 32,
-    ];
+    let mut c = [n & 0xffff_ffff, n >> 32, stream & 0xffff_ffff, stream >> 32];
     let mut k0 = key0;
     let mut k1 = key1;
     for _ in 0u32..10 {

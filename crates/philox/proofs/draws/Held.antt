@@ -4,7 +4,7 @@ use mathlib.Core.Path.{_≡_, sym, ap, _∙_, subst}
 use Prim.Native.Nat.{ℕ, _+_, _*_, _/_, _%_, _^_, _<_, _≤_}
 use native.Mathlib.Nat.{mod-lt}
 use native.Mathlib.Omega.{arith}
-use lib.Bits.{bitOr, xor-lt, or-shifted-r}
+use lib.Bits.{bitAnd, bitOr, bitXor, and-mask, xor-lt, or-shifted-r}
 use lib.ListN.{getD, length}
 use lib.Pow.{pow-pos, shr-lt, shl-exact}
 use Rattle.base.specs.Quad.{Quad, quadOf, listOf}
@@ -29,6 +29,28 @@ round-small k0 k1 q a b h =
 pub counter-small : (s n : ℕ) → s < 2 ^ 64 → n < 2 ^ 64 → Small (counterOf s n)
 unfolding counterOf
 counter-small s n a b = record { s0 = omega arith; s1 = omega arith; s2 = omega arith; s3 = omega arith }
+
+-- a round and a counter whose low halves are made by masks, as the code makes them
+abbrev roundMasked : ℕ → ℕ → Quad → Quad
+roundMasked k0 k1 c =
+    record {
+      w0 = bitXor (bitXor (m1 * c .w2 / 2 ^ 32) (c .w1)) k0;
+      w1 = bitAnd (m1 * c .w2) 0xffff_ffff;
+      w2 = bitXor (bitXor (m0 * c .w0 / 2 ^ 32) (c .w3)) k1;
+      w3 = bitAnd (m0 * c .w0) 0xffff_ffff;
+    }
+
+pub round-masked : (k0 k1 : ℕ) (c : Quad) → listOf (roundMasked k0 k1 c) ≡ listOf (round k0 k1 c)
+unfolding round
+round-masked k0 k1 c =
+    λ i. listOf (record { w0 = round k0 k1 c .w0; w1 = and-mask (m1 * c .w2) 32 i; w2 = round k0 k1 c .w2; w3 = and-mask (m0 * c .w0) 32 i })
+
+abbrev counterMasked : ℕ → ℕ → Quad
+counterMasked s n = record { w0 = bitAnd n 0xffff_ffff; w1 = n / 2 ^ 32; w2 = bitAnd s 0xffff_ffff; w3 = s / 2 ^ 32 }
+
+pub counter-masked : (s n : ℕ) → counterMasked s n ≡ counterOf s n
+unfolding counterOf
+counter-masked s n = λ i. record { w0 = and-mask n 32 i; w1 = n / 2 ^ 32; w2 = and-mask s 32 i; w3 = s / 2 ^ 32 }
 
 -- two halves side by side
 joined : (lo hi : ℕ) → lo < 2 ^ 32 → hi < 2 ^ 32 → bitOr lo (hi * 2 ^ 32 % 2 ^ 64) ≡ lo + 2 ^ 32 * hi
