@@ -1,4 +1,5 @@
--- Draws of Philox by a seek; that a source draws as its engine does; and the theorems.
+-- Draws of Philox by a seek; that a source draws as its engine does; where the words of its draws stand; and the theorems.
 pub mod Philox
 pub mod Engines
+pub mod Places
 pub mod Theorems

@@ -12,7 +12,7 @@ two-draws : (g : Philox4x32X8) (n : ℕ) → nextOf (nextOf (sought g n)) ≡ so
 unfolding nextOf sought holding
 two-draws g n = refl
 
-even-draws : (g : Philox4x32X8) (q : ℕ) → iterate nextOf (2 * q) (sought g 0) ≡ sought g (8 * q % 2 ^ 64)
+pub even-draws : (g : Philox4x32X8) (q : ℕ) → iterate nextOf (2 * q) (sought g 0) ≡ sought g (8 * q % 2 ^ 64)
 unfolding iterate
 even-draws g zero = refl
 even-draws g (suc q) =

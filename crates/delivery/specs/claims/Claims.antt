@@ -3,13 +3,15 @@
 use mathlib.Core.Bool.{true, false}
 use mathlib.Core.List.{List, _++_}
 use mathlib.Core.Path.{_≡_}
-use Prim.Native.Nat.{ℕ, _+_, _%_, _≤_}
+use Prim.Native.Nat.{ℕ, _+_, _*_, _%_, _≤_, _<_}
 use lib.ListN.{length}
 use Rattle.base.specs.Iterate.{iterate}
 use Rattle.base.specs.Lists as lists
-use Rattle.delivery.specs.source.Source.{nextOf, startOf}
-use Rattle.delivery.specs.parts.Delivery.{groupOf, begun, shown, closingOf}
+use Rattle.delivery.specs.source.Places.{placeOf}
+use Rattle.delivery.specs.source.Source.{wordsOf, nextOf, startOf}
+use Rattle.delivery.specs.parts.Delivery.{widthOf, groupOf, begun, shown, closingOf}
 use Rattle.delivery.specs.parts.Claims.{Call, Run, restOf, joinedIn, ordered, Useful}
+use Rattle.fills.specs.FillBytes.{bytesWritten}
 use Rattle.text.specs.lines.Lines.{linesOf, endsOf}
 use Rattle.order.specs.Claims.{Accepted}
 use Rattle.order.specs.declared.Order.{Order}
@@ -49,3 +51,36 @@ abbrev pub Resumes : Type 0
 Resumes = (o : Order) (n : ℕ) → Accepted o → o .count % groupOf (o .kind) ≡ 0
     → shown (o .raw) (o .kind) (ordered (o .engine) (o .seed) (o .block) (o .first) (o .kind) (o .count + n))
     ≡ shown (o .raw) (o .kind) (bytesOf o) ++ shown (o .raw) (o .kind) (ordered (o .engine) (o .seed) (o .block) (o .first + o .draws) (o .kind) n)
+
+-- ---- which draws an order reads
+-- draw i is one of those from FIRST up to END
+pub record Reads (o : Order) (i : ℕ) : Type 0 where
+  pub from : o .first ≤ i
+  pub until : i < o .first + o .draws
+
+-- the words of draw i of an order's engine, seed and block
+abbrev pub drawOf : Order → ℕ → List ℕ
+drawOf o i = wordsOf (iterate nextOf i (startOf (o .engine) (o .seed) (o .block)))
+
+-- the bytes that an order would have if draw i handed out W i
+abbrev pub bytesFrom : (ℕ → List ℕ) → Order → List ℕ
+bytesFrom W o = bytesWritten (o .kind) (λ m. W (o .first + m)) (o .count * widthOf (o .kind))
+
+-- an order's bytes are made of its own draws from FIRST up to END, and of no other: where two streams agree on these, the bytes are the same
+pub record MadeOf (o : Order) : Type 0 where
+  pub own : bytesOf o ≡ bytesFrom (drawOf o) o
+  pub only : (U W : ℕ → List ℕ) → ((i : ℕ) → Reads o i → U i ≡ W i) → bytesFrom U o ≡ bytesFrom W o
+
+abbrev pub ReadsOnlyItsDraws : Type 0
+ReadsOnlyItsDraws = (o : Order) → Accepted o → MadeOf o
+
+-- orders of one engine and one seed lie apart: their blocks differ, or their ranges FIRST to END don't meet
+pub data Apart (o p : Order) : Type 0 where
+  blocks : (o .block ≡ p .block → ⊥) → Apart o p
+  before : o .first + o .draws ≤ p .first → Apart o p
+  behind : p .first + p .draws ≤ o .first → Apart o p
+
+-- then they read different draws: no word of a draw that one reads stands at the place of a word that the other reads
+abbrev pub NoDrawTwice : Type 0
+NoDrawTwice = (o p : Order) → Accepted o → Accepted p → o .engine ≡ p .engine → Apart o p → (i k j l : ℕ) → Reads o i → Reads p k → j < 8 → l < 8
+    → placeOf (o .engine) (o .block) i j ≡ placeOf (p .engine) (p .block) k l → ⊥
