@@ -1,6 +1,6 @@
-// An order in, its numbers out: deliver ENGINE SEED BLOCK FIRST KIND COUNT [raw]. What an order is, what is written and what the closing line says
-// is decided by `order` and by `delivery::parts`, and proved there: here the arguments are taken, and what those functions hand out is written. No
-// contract can say what a program reads or writes, so that a function that only does that promises nothing.
+// An order in, its numbers out: deliver ENGINE SEED BLOCK FIRST KIND COUNT [raw]. What an order is, what is written and what the closing
+// line says is decided by `order` and by `delivery::parts`, and proved there: here the arguments are taken, and what those functions hand
+// out is written. No contract can say what a program reads or writes, so that a function that only does that promises nothing.
 use delivery::parts;
 use delivery::parts::Delivery;
 use libc::STDERR_FILENO;
@@ -24,8 +24,8 @@ fn told(ok: bool) -> bool
     ok
 }
 
-// Part after part of a delivery to standard output, until nothing is left or a write fails. Hands back what is left: where a write failed, also the
-// part that it was to write.
+// Part after part of a delivery to standard output, until nothing is left or a write fails. Hands back what is left: where a write
+// failed, also the part that it was to write.
 fn write_parts(d: Delivery, values: &mut [u8], out: &mut [u8]) -> Delivery
     requires { ⌜ (1 ≤ d .kind) × (d .kind ≤ length kinds) × (128 ≤ length (now values)) × (400 ≤ length (now out)) ⌝ }
     ensures { λ r. ⌜ Reached d r ⌝ }

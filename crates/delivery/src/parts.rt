@@ -1,19 +1,20 @@
-// One order delivered part by part, so that a caller needs no more memory than two buffers. What a caller writes, and when it is done, is decided
-// here: it begins with an order, takes part after part and writes what it is handed, until nothing is left, and then the closing line.
+// One order delivered part by part, so that a caller needs no more memory than two buffers. What a caller writes, and when it is done, is
+// decided here: it begins with an order, takes part after part and writes what it is handed, until nothing is left, and then the closing
+// line.
 use crate::source;
 use crate::source::Source;
 use fills::kinds;
 use order::Order;
 use text::lines;
 ghost use mathlib.Core.Path.{_≡_};
-ghost use Prim.Native.Nat.{_*_, _/_, _≤_, _<_, min};
+ghost use Prim.Native.Nat.{_*_, _≤_};
 ghost use lib.ListN.{length};
 ghost use Rattle.base.specs.Put.{Put};
 ghost use Rattle.text.specs.lines.Lines.{Counts};
 ghost use Rattle.delivery.specs.parts.Delivery.{widthOf, placesOf, begun, textRoom, closingOf, FilledPart, NextPart};
 
-// The places of a kind that are still to come, and the source that they are drawn from; whether they are written as bytes or as lines; and for
-// the closing line, the delivery's first draw and the draws that its parts made so far.
+// The places of a kind that are still to come, and the source that they are drawn from; whether they are written as bytes or as lines;
+// and for the closing line, the delivery's first draw and the draws that its parts made so far.
 pub struct Delivery {
     pub source: Source,
     pub kind: u64,
@@ -58,8 +59,8 @@ fn places(kind: u64, left: u64, len: usize) -> usize
     0
 }
 
-// The next part's values as bytes, at the start of `out`: as many places as are left, or as many times 16 as `out` has room for. The bytes behind
-// them stay. Nothing is written where the kind is outside the table.
+// The next part's values as bytes, at the start of `out`: as many places as are left, or as many times 16 as `out` has room for. The
+// bytes behind them stay. Nothing is written where the kind is outside the table.
 fn fill_part(d: Delivery, out: &mut [u8]) -> Part
     ensures { λ r. ⌜ FilledPart d (now (out .entry)) (now (out .exit)) (r .bytes) (r .rest) ⌝ }
 {
@@ -81,8 +82,8 @@ fn fill_part(d: Delivery, out: &mut [u8]) -> Part
     Part { bytes, rest }
 }
 
-// The bytes of values that a part in text may have: no more than `values`, nor than there are lines for in a text of `out` bytes. A line has 25
-// bytes at most.
+// The bytes of values that a part in text may have: no more than `values`, nor than there are lines for in a text of `out` bytes. A line
+// has 25 bytes at most.
 fn text_room(kind: u64, values: usize, out: usize) -> usize
     ensures { λ r. ⌜ (r ≡ textRoom kind values out) × (r ≤ values) ⌝ }
 {
@@ -93,9 +94,9 @@ fn text_room(kind: u64, values: usize, out: usize) -> usize
     room
 }
 
-// The next part of a delivery as it is to be written, at the start of `out`: the bytes of its values, which are made there; or their lines, and then
-// the values are made in `values`. What stands behind them stays, and with `raw` all of `values`. The part is empty only where nothing is left, the
-// kind is outside the table, or a buffer is too small: 128 bytes of values and 400 bytes of text are enough.
+// The next part of a delivery as it is to be written, at the start of `out`: the bytes of its values, which are made there; or their
+// lines, and then the values are made in `values`. What stands behind them stays, and with `raw` all of `values`. The part is empty only
+// where nothing is left, the kind is outside the table, or a buffer is too small: 128 bytes of values and 400 bytes of text are enough.
 pub fn next_part(d: Delivery, values: &mut [u8], out: &mut [u8]) -> Part
     ensures { λ r. ⌜ NextPart d (now (values .entry)) (now (values .exit)) (now (out .entry)) (now (out .exit)) (r .bytes) (r .rest) ⌝ }
 {
@@ -111,8 +112,8 @@ pub fn next_part(d: Delivery, values: &mut [u8], out: &mut [u8]) -> Part
     Part { bytes, rest }
 }
 
-// The closing line of a delivery, at the start of `line`, and how many bytes it has: the delivery's first draw, and the first draw after those that
-// its parts made. Nothing where something is left. It has 42 bytes at most; with less room nothing is written either.
+// The closing line of a delivery, at the start of `line`, and how many bytes it has: the delivery's first draw, and the first draw after
+// those that its parts made. Nothing where something is left. It has 42 bytes at most; with less room nothing is written either.
 pub fn closing(d: Delivery, line: &mut [u8]) -> usize
     ensures { λ r. ⌜ Put (closingOf d (length (now (line .entry)))) 0 (now (line .entry)) (now (line .exit)) r ⌝ }
     ensures { λ r. ⌜ Counts r (now (line .exit)) ⌝ }

@@ -8,8 +8,8 @@ use Rattle.fills.specs.Kinds.{kinds, kindAt}
 use Rattle.order.specs.Order.{lastBlock, lastDraw, orderOf}
 use Rattle.order.specs.declared.Order.{Order}
 
--- an order that is not refused: an engine that there is, a block that is no other block of it, a kind of the table, a count of 64 bits, the draws of
--- the table, and none of them past the last draw of the engine
+-- an order that is not refused: an engine that there is, a block that is no other block of it, a kind of the table, a count of 64 bits,
+-- the draws of the table, and none of them past the last draw of the engine
 pub record Accepted (o : Order) : Type 0 where
   pub engine : (1 ≤ o .engine) × (o .engine ≤ 2)
   pub block : o .block ≤ lastBlock (o .engine)

@@ -8,7 +8,9 @@ use Rattle.deliver.proofs.main.Statement.{statement}
 use Rattle.deliver.proofs.main.Tie as tie
 
 deliver-requires : tie.Need-deliver-requires
-deliver-requires c κs = subst Accepted (sym (c .before .before .read .ensures)) (orders _ _ _ _ _ _ _ _ (sym (ap (λ (o : Order). o .refusal) (c .before .before .read .ensures)) ∙ c .if1 .left))
+deliver-requires c κs =
+    let e = c .before .before .read .ensures in
+    subst Accepted (sym e) (orders _ _ _ _ _ _ _ _ (sym (ap (λ (o : Order). o .refusal) e) ∙ c .if1 .left))
 
 pub main-spec : {M : Type 1} → statement M
 main-spec =

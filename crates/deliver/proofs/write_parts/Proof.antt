@@ -16,7 +16,9 @@ loop-holds : tie.Need-loop-holds Inv-loop μ-loop
 loop-holds c = (refl, refl, looping-none (c .before .before .pre))
 
 returns : tie.Need-returns Inv-loop μ-loop
-returns c = c .before .before .before .before .before .before .before .before .before .before .before .before .before .loop .inv .2 .reached
+returns c =
+    let n = c .before .before .before .before .before .before .before .before in
+    n .before .before .before .before .before .loop .inv .2 .reached
 
 loop-less : tie.Need-loop-less Inv-loop μ-loop
 loop-less c =

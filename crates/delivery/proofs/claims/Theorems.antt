@@ -16,7 +16,7 @@ use Rattle.fills.specs.FillBytes.{bytesWritten, bytesDraws}
 use Rattle.fills.specs.Kinds.{kinds, kindAt, of, u64s}
 use Rattle.fills.proofs.Sounds.{row}
 use Rattle.fills.proofs.Theorems.{only-its-draws}
-use Rattle.text.specs.lines.Lines.{linesOf, endsOf}
+use Rattle.text.specs.lines.Lines.{endsOf}
 use Rattle.order.specs.Claims.{Accepted}
 use Rattle.order.specs.Order.{lastBlock, lastDraw}
 use Rattle.order.specs.declared.Order.{Order}
@@ -83,8 +83,9 @@ finishes o calls A r u = omega (arith, stops (begun o) calls (A .kind .0) (A .ki
 
 pub resumes : Resumes
 resumes o n A e =
+    let f = shown (o .raw) (o .kind) in
     two-orders (o .raw) (o .engine) (o .seed) (o .block) (o .first) (o .kind) (o .count) n e
-    ∙ ap (λ (m : ℕ). shown (o .raw) (o .kind) (bytesOf o) ++ shown (o .raw) (o .kind) (ordered (o .engine) (o .seed) (o .block) (o .first + m) (o .kind) n)) (draws-of o A)
+    ∙ ap (λ (m : ℕ). f (bytesOf o) ++ f (ordered (o .engine) (o .seed) (o .block) (o .first + m) (o .kind) n)) (draws-of o A)
 
 -- ---- which draws an order reads
 pub reads-only-its-draws : ReadsOnlyItsDraws
@@ -95,7 +96,7 @@ reads-only-its-draws o A =
     record {
       own = ap (λ (W : ℕ → List ℕ). bytesWritten k W n) (fun-ext (λ m. ap wordsOf (sym (iterate-then nextOf (o .first) m S))));
       only = λ U W same. only-its-draws k n (λ m. U (o .first + m)) (λ m. W (o .first + m)) .1
-      (λ m h. same (o .first + m) (record { from = omega arith; until = omega (arith, draws-of o A) }));
+          (λ m h. same (o .first + m) (record { from = omega arith; until = omega (arith, draws-of o A) }));
     }
 
 -- a draw that an accepted order reads is one of its engine's
@@ -113,5 +114,6 @@ no-draw-twice o p A B e apart i k j l R S hj hl q =
     let same = ap (λ (x : ℕ). placeOf x (p .block) k l) (sym e) in
     let last-block = subst (λ (x : ℕ). p .block ≤ lastBlock x) (sym e) (B .block) in
     let last-draw = subst (λ (x : ℕ). k ≤ lastDraw x) (sym e) (last-read p k B S) in
-    let one = one-word-each (o .engine) (o .block) (p .block) i k j l (A .block) last-block (last-read o i A R) last-draw hj hl (q ∙ same) in
+    let one =
+    one-word-each (o .engine) (o .block) (p .block) i k j l (A .block) last-block (last-read o i A R) last-draw hj hl (q ∙ same) in
     not-both o p i (one .0) apart R (subst (Reads p) (sym (one .1)) S)

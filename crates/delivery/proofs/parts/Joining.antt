@@ -2,7 +2,8 @@
 use mathlib.Core.List.{List, [], _++_, append-nil}
 use mathlib.Core.Path.{_≡_, refl, sym, ap, _∙_, fun-ext}
 use Prim.Native.Nat.{ℕ, zero, suc, _+_, _-_, _*_, _/_, _%_, _<_, _≤_}
-use native.Mathlib.Nat.{add-zero, zero-mul, mul-zero, add-mul, mul-add, mul-assoc, suc-mul, mod-lt, mul-mod-left, div-add-mod', div-mul-le-self, lt-div-mul-add, div-eq-of-lt-le, div-eq-of-eq-mul-left}
+use native.Mathlib.Nat.{add-zero, zero-mul, mul-zero, add-mul, mul-add, mul-assoc, suc-mul}
+use native.Mathlib.Nat.{mod-lt, mul-mod-left, div-add-mod', div-mul-le-self, lt-div-mul-add, div-eq-of-lt-le, div-eq-of-eq-mul-left}
 use native.Mathlib.Numerals.{add-one}
 use native.Mathlib.Omega.{arith}
 use lib.ListN.{length, getD}
@@ -39,9 +40,11 @@ module _ {A : Type 0} (K : Kind A) (some : 0 < K .places) where
       ∙ sym (element-at K W′ q (i % p) (mod-lt i some))
       ∙ ap (element K W′) d
 
-  table-past : (W : ℕ → List ℕ) (t m : ℕ) → table (t * K .places + m) (element K W) ≡ table (t * K .places) (element K W) ++ table m (element K (λ j. W (K .draws * t + j)))
+  table-past : (W : ℕ → List ℕ) (t m : ℕ)
+      → table (t * K .places + m) (element K W) ≡ table (t * K .places) (element K W) ++ table m (element K (λ j. W (K .draws * t + j)))
   table-past W t m =
-      table-append (t * K .places) m (element K W) ∙ ap (λ (l : List A). table (t * K .places) (element K W) ++ l) (table-same m _ _ (λ i h. element-past W t i))
+      table-append (t * K .places) m (element K W)
+      ∙ ap (λ (l : List A). table (t * K .places) (element K W) ++ l) (table-same m _ _ (λ i h. element-past W t i))
 
   round-past : (t m : ℕ) → roundUp (t * K .places + m) (K .places) ≡ t + roundUp m (K .places)
   round-past t m =
@@ -74,7 +77,8 @@ pub whole-16 : (k n : ℕ) → n % 16 ≡ 0 → n % groupOf k ≡ 0
 unfolding kindAt
 whole-16 k n h =
     let p : ℕ = groupOf k in
-    let e : n ≡ n / 16 * (16 / p) * p = sym (mul-assoc (n / 16) (16 / p) p ∙ ap (λ (x : ℕ). n / 16 * x) (whole-at (k - 1)) ∙ omega arith) in
+    let e : n ≡ n / 16 * (16 / p) * p =
+    sym (mul-assoc (n / 16) (16 / p) p ∙ ap (λ (x : ℕ). n / 16 * x) (whole-at (k - 1)) ∙ omega arith) in
     ap (λ (x : ℕ). x % p) e ∙ mul-mod-left (n / 16 * (16 / p)) p
 
 -- n places by their bytes
@@ -101,7 +105,9 @@ module _ (k : ℕ) where
     pub length-written : (n : ℕ) → length (bytesWritten k W (n * widthOf k)) ≡ n * widthOf k
     length-written n =
         let K = kindAt k .kind in
-        ap length (written n) ∙ flat-length (bytesOf K) (K .width) (wide K (row k .sound) (row k .wide)) (table n (element K W)) ∙ ap (λ (x : ℕ). x * K .width) (length-table n (element K W))
+        ap length (written n)
+        ∙ flat-length (bytesOf K) (K .width) (wide K (row k .sound) (row k .wide)) (table n (element K W))
+        ∙ ap (λ (x : ℕ). x * K .width) (length-table n (element K W))
 
 -- ---- two fills
 module _ {G : Type 0} (E : Engine G) (g : G) (k n : ℕ) where
@@ -114,7 +120,8 @@ module _ {G : Type 0} (E : Engine G) (g : G) (k n : ℕ) where
       let b : bytesDraws k (n * widthOf k) ≡ K .draws * t = drawn k n ∙ ap (drawsFor K) e ∙ draws-whole K some t in
       let W : ℕ → List ℕ = wordsFrom E g in
       let W′ : ℕ → List ℕ = λ i. wordsFrom E (iterate (E .next) (bytesDraws k (n * widthOf k)) g) i in
-      let same : (j : ℕ) → W (K .draws * t + j) ≡ W′ j = λ j. ap (E .words) (iterate-then (E .next) (K .draws * t) j g ∙ ap (λ (x : ℕ). iterate (E .next) j (iterate (E .next) x g)) (sym b)) in
+      let same : (j : ℕ) → W (K .draws * t + j) ≡ W′ j =
+      λ j. ap (E .words) (iterate-then (E .next) (K .draws * t) j g ∙ ap (λ (x : ℕ). iterate (E .next) j (iterate (E .next) x g)) (sym b)) in
       let e′ = sym e in
       let first = sym (written k W n) in
       let second = sym (written k W′ m) in
@@ -141,5 +148,8 @@ module _ {G : Type 0} (E : Engine G) (g : G) (k n : ℕ) where
             ap (λ (x : ℕ). bytesWritten k W (x * w)) (add-zero n)
             ∙ sym (append-nil (bytesWritten k W (n * w)))
             ∙ ap (λ (l : List ℕ). bytesWritten k W (n * w) ++ l) (sym (ap (bytesWritten k W′) z ∙ none-written k W′));
-        draws = ap (λ (x : ℕ). bytesDraws k (x * w)) (add-zero n) ∙ sym (add-zero (bytesDraws k (n * w))) ∙ ap (λ (x : ℕ). bytesDraws k (n * w) + x) (sym (ap (bytesDraws k) z ∙ none-drawn k));
+        draws =
+            ap (λ (x : ℕ). bytesDraws k (x * w)) (add-zero n)
+            ∙ sym (add-zero (bytesDraws k (n * w)))
+            ∙ ap (λ (x : ℕ). bytesDraws k (n * w) + x) (sym (ap (bytesDraws k) z ∙ none-drawn k));
       }

@@ -1,6 +1,7 @@
--- A loop that calls `next_part` until nothing is left, with buffers that are large enough: it ends, and what is left was reached by its calls.
+-- A loop that calls `next_part` until nothing is left, with buffers that are large enough: it ends, and what is left was reached by its
+-- calls.
 use mathlib.Core.List.{List, [], _∷_}
-use mathlib.Core.Path.{_≡_, refl, sym, ap, _∙_, subst}
+use mathlib.Core.Path.{_≡_, refl, sym, ap, subst}
 use Prim.Native.Nat.{ℕ, _<_, _≤_}
 use native.Mathlib.Omega.{arith}
 use lib.ListN.{length}
@@ -16,10 +17,12 @@ pub record Looping (d : Delivery) (values out : List ℕ) (rest : Delivery) : Ty
   pub enough : (128 ≤ length values) × (400 ≤ length out)
   pub reached : Reached d rest
 
-pub looping-none : {d : Delivery} {values out : List ℕ} → (1 ≤ d .kind) × (d .kind ≤ length kinds) × (128 ≤ length values) × (400 ≤ length out) → Looping d values out d
+pub looping-none : {d : Delivery} {values out : List ℕ}
+    → (1 ≤ d .kind) × (d .kind ≤ length kinds) × (128 ≤ length values) × (400 ≤ length out) → Looping d values out d
 looping-none {d} h = record { kind = (h .0, h .1); enough = (h .2, h .3); reached = record { calls = []; run = none; end = refl } }
 
-module _ {d rest : Delivery} {values values′ out out′ : List ℕ} {part : Part} (L : Looping d values out rest) (P : NextPart rest values values′ out out′ (part .bytes) (part .rest)) where
+module _ {d rest : Delivery} {values values′ out out′ : List ℕ} {part : Part} (L : Looping d values out rest)
+    (P : NextPart rest values values′ out out′ (part .bytes) (part .rest)) where
   abbrev call : Call
   call = record { values = values; values′ = values′; out = out; out′ = out′; part = part }
 

@@ -2,7 +2,7 @@
 use mathlib.Core.Bool.{Bool, true, false}
 use mathlib.Core.List.{List, [], _∷_, _++_}
 use mathlib.Core.Path.{_≡_, refl, sym, ap, _∙_}
-use Prim.Native.Nat.{ℕ, zero, suc, _+_, _-_, _*_, _%_, _^_, _<_, _≤_}
+use Prim.Native.Nat.{ℕ, zero, suc, _+_, _-_, _*_, _%_, _^_, _≤_}
 use native.Mathlib.Nat.{zero-mul, mul-mod-left}
 use native.Mathlib.Omega.{arith}
 use lib.ListN.{length, take, drop}
@@ -29,8 +29,10 @@ record Made (k : ℕ) (s : Source) (n : ℕ) (after : List ℕ) (count : ℕ) : 
   draws : count ≡ bytesDraws k n
 
 module _ {k : ℕ} {s s′ : Source} {l after : List ℕ} (bytes : ℕ) (long : length l ≡ bytes) where
-  bytes-made : (refusal : ℕ) {draws : ℕ} → ((refusal ≡ 0 → ⊥) → bytes ≡ 0) → FilledBytes either k s l after refusal draws s′ → Made k s bytes after draws
-  bytes-made zero h F = record { bytes = F .writes ∙ ap (bytesWritten k (wordsFrom either s)) long; draws = F .count ∙ ap (bytesDraws k) long }
+  bytes-made : (refusal : ℕ) {draws : ℕ} → ((refusal ≡ 0 → ⊥) → bytes ≡ 0) → FilledBytes either k s l after refusal draws s′
+      → Made k s bytes after draws
+  bytes-made zero h F =
+      record { bytes = F .writes ∙ ap (bytesWritten k (wordsFrom either s)) long; draws = F .count ∙ ap (bytesDraws k) long }
   bytes-made (suc r) h F =
       let z : bytes ≡ 0 = h (omega arith) in
       record {
@@ -50,7 +52,8 @@ refused-none k left m h = go (isKind k) refl
 pub part-made : {d : Delivery} {before after : List ℕ} {n w bytes refusal draws sum : ℕ} {s : Source}
     → n ≡ placesOf (d .kind) (d .left) (length before) → w ≡ widthOf (d .kind) → bytes ≡ n * w
     → FilledBytes either (d .kind) (d .source) (take bytes before) after refusal draws s → sum ≡ (d .draws + draws) % 2 ^ 64
-    → FilledPart d before (after ++ drop bytes before) bytes (record { source = s; kind = d .kind; left = d .left - n; raw = d .raw; first = d .first; draws = sum })
+    → FilledPart d before (after ++ drop bytes before) bytes
+    (record { source = s; kind = d .kind; left = d .left - n; raw = d .raw; first = d .first; draws = sum })
 part-made {d} {before} {after} {n} {w} {bytes} {refusal} {draws} {sum} {s} en ew eb F es =
     let k : ℕ = d .kind in
     let f = fits k (d .left) (length before) in
@@ -58,7 +61,9 @@ part-made {d} {before} {after} {n} {w} {bytes} {refusal} {draws} {sum} {s} en ew
     let count : bytes ≡ places * widthOf k = eb ∙ (λ i. en i * ew i) in
     let long : length (take bytes before) ≡ bytes = length-take-le bytes before (omega (arith, count, f .room)) in
     let none : (refusal ≡ 0 → ⊥) → bytes ≡ 0 =
-    λ h. count ∙ ap (λ (x : ℕ). x * widthOf k) (refused-none k (d .left) (length before) (λ e. h (F .refuses ∙ ap (refusalOf k) (long ∙ count) ∙ e))) ∙ zero-mul (widthOf k) in
+    λ h. count
+    ∙ ap (λ (x : ℕ). x * widthOf k) (refused-none k (d .left) (length before) (λ e. h (F .refuses ∙ ap (refusalOf k) (long ∙ count) ∙ e)))
+    ∙ zero-mul (widthOf k) in
     let made = bytes-made bytes long refusal none F in
     let shown = made .bytes ∙ ap (bytesWritten k (wordsFrom either (d .source))) count in
     let full : length after ≡ bytes = ap length shown ∙ length-written k (wordsFrom either (d .source)) places ∙ sym count in

@@ -1,4 +1,5 @@
--- How many places a part has: no more than are left or than the buffer has room for, and whole groups or all that are left. Assumes nothing.
+-- How many places a part has: no more than are left or than the buffer has room for, and whole groups or all that are left. Assumes
+-- nothing.
 use mathlib.Core.Bool.{Bool, true, false, cond, _&&_}
 use mathlib.Core.Path.{_≡_, refl, sym, ap, _∙_, subst}
 use Prim.Native.Nat.{ℕ, zero, suc, _+_, _-_, _*_, _/_, _%_, _<_, _≤_, min}

@@ -2,11 +2,12 @@
 use mathlib.Core.Bool.{Bool, true, false, cond, _&&_}
 use mathlib.Core.List.{List, [], _∷_, _++_, append-assoc}
 use mathlib.Core.Path.{_≡_, refl, sym, ap, _∙_, subst}
-use Prim.Native.Nat.{ℕ, zero, suc, _+_, _-_, _*_, _/_, _%_, _^_, _<_, _≤_, min}
-use native.Mathlib.Nat.{zero-add, zero-mul, zero-div, suc-mul, mul-le-mul-right, mul-comm, mul-div-cancel, mul-mod-left, le-of-mul-le-mul-right}
+use Prim.Native.Nat.{ℕ, zero, suc, _+_, _-_, _*_, _/_, _%_, _<_, _≤_}
+use native.Mathlib.Nat.{zero-add, zero-mul, zero-div}
+use native.Mathlib.Nat.{mul-le-mul-right, mul-comm, mul-div-cancel, mul-mod-left, le-of-mul-le-mul-right}
 use native.Mathlib.Omega.{arith}
-use borrow.Author.Tests.{eq-eqb, ne-eqb, le-leb}
-use lib.Dec.{eqb, leb}
+use borrow.Author.Tests.{eq-eqb, ne-eqb}
+use lib.Dec.{leb}
 use lib.ListN.{length, take, drop, length-append, take-append-drop}
 use lib.Seq.{length-take-le, length-front, take-at, drop-append-le}
 use Rattle.base.specs.Bytes.{flat}
@@ -14,14 +15,15 @@ use Rattle.base.specs.Put.{Put, given}
 use Rattle.base.specs.Table.{table}
 use Rattle.base.specs.Engine.{wordsFrom}
 use Rattle.base.proofs.Put.{put-length, put-shown, given-no}
-use Rattle.fills.specs.FillBytes.{elements, refusalOf, bytesWritten}
-use Rattle.fills.specs.Kinds.{kinds, isKind}
+use Rattle.fills.specs.FillBytes.{elements, bytesWritten}
+use Rattle.fills.specs.Kinds.{isKind}
 use Rattle.fills.proofs.Sounds.{row}
 use Rattle.fills.proofs.kinds.Numbers as numbers
 use Rattle.text.specs.lines.Lines.{textOf, line, valueAt, linesOf, accepted, endsOf, Counts}
 use Rattle.text.proofs.lines.Laws.{all-accepted, counts}
 use Rattle.delivery.specs.source.Source.{either}
-use Rattle.delivery.specs.parts.Delivery.{widthOf, placesOf, bytesIn, shown, leftAfter, textRoom, nextPlaces, atStart, closingOf, FilledPart, NextPart}
+use Rattle.delivery.specs.parts.Delivery.{widthOf, placesOf, bytesIn, shown, leftAfter}
+use Rattle.delivery.specs.parts.Delivery.{textRoom, nextPlaces, atStart, closingOf, FilledPart, NextPart}
 use Rattle.delivery.specs.declared.parts.Delivery.{Delivery}
 use Rattle.delivery.proofs.parts.Joining.{none-written, length-written}
 use Rattle.delivery.proofs.parts.Room.{fits, no-kind, width-most}
@@ -87,13 +89,15 @@ module _ (d : Delivery) (values out : List ℕ) where
       ∙ shown-none (d .kind) (d .raw))
 
   pub promised : {values′ out′ : List ℕ} {bytes : ℕ} {rest : Delivery}
-      → values′ ≡ cond (d .raw) values (atStart (bytesIn d n) values) → length values′ ≡ length values → out′ ≡ atStart part out → bytes ≡ length part
+      → values′ ≡ cond (d .raw) values (atStart (bytesIn d n) values) → length values′ ≡ length values → out′ ≡ atStart part out
+      → bytes ≡ length part
       → length part ≤ length out → rest ≡ leftAfter d n → NextPart d values values′ out out′ bytes rest
   unfolding nextPlaces
   promised {values′} {out′} {bytes} {rest} ev ew eo eb room er =
       let k : ℕ = d .kind in
       let f = fits k (d .left) (cond (d .raw) (length out) (textRoom k (length values) (length out))) in
-      let same : length out′ ≡ length out = ap length eo ∙ length-front out part (length part) (sym (length-take-le (length part) out room)) in
+      let same : length out′ ≡ length out =
+      ap length eo ∙ length-front out part (length part) (sym (length-take-le (length part) out room)) in
       let inside : bytes ≤ length out′ = omega (arith, same) in
       record {
         makes = ev;
@@ -104,7 +108,9 @@ module _ (d : Delivery) (values out : List ℕ) where
         inside = inside;
         long = sym (length-take-le bytes out′ inside);
         lessens = λ h. some-left n refl h;
-        some = λ a b c e l. omega (arith, eb, shown-some k (wordsFrom either (d .source)) n (d .raw) (f .some a b (room-enough k (length values) (length out) (d .raw) c e) l));
+        some = λ a b c e l.
+            let h = f .some a b (room-enough k (length values) (length out) (d .raw) c e) l in
+            omega (arith, eb, shown-some k (wordsFrom either (d .source)) n (d .raw) h);
       }
     where
       some-left : (m : ℕ) → n ≡ m → 0 < bytes → rest .left < d .left
@@ -114,7 +120,8 @@ module _ (d : Delivery) (values out : List ℕ) where
           omega (arith, q, fits (d .kind) (d .left) (cond (d .raw) (length out) (textRoom (d .kind) (length values) (length out))) .few)
 
 -- ---- with `raw`
-pub raw-part : {d rest : Delivery} {values out out′ : List ℕ} {bytes : ℕ} → d .raw ≡ true → FilledPart d out out′ bytes rest → NextPart d values values out out′ bytes rest
+pub raw-part : {d rest : Delivery} {values out out′ : List ℕ} {bytes : ℕ} → d .raw ≡ true → FilledPart d out out′ bytes rest
+    → NextPart d values values out out′ bytes rest
 unfolding nextPlaces
 raw-part {d} {rest} {values} {out} {out′} {bytes} e F =
     let k : ℕ = d .kind in
@@ -147,15 +154,19 @@ module _ (k : ℕ) (l out : List ℕ) where
 
       go : (b : Bool) → b ≡ isKind k → Put (linesOf k l) 0 out out′ r
       go true e =
-          let a : accepted k (length l) (length out) ≡ true = all-accepted k (length l) (length out) refl (sym (numbers.accepted k (length l) e refl refl whole)) room in
+          let a : accepted k (length l) (length out) ≡ true =
+          all-accepted k (length l) (length out) refl (sym (numbers.accepted k (length l) e refl refl whole)) room in
           subst (λ (b : Bool). Put (given b (linesOf k l)) 0 out out′ r) a P
-      go false e = subst (λ (t : List ℕ). Put t 0 out out′ r) (none-given (accepted k (length l) (length out)) (ap (linesOf k) (none (sym e)) ∙ no-lines k)) P
+      go false e =
+          let z : linesOf k l ≡ [] = ap (linesOf k) (none (sym e)) ∙ no-lines k in
+          subst (λ (t : List ℕ). Put t 0 out out′ r) (none-given (accepted k (length l) (length out)) z) P
 
 -- what stands behind a part of a part of a buffer
 behind : (n m : ℕ) (l : List ℕ) → n ≤ m → m ≤ length l → drop n (take m l) ++ drop m l ≡ drop n l
 behind n m l h g = sym (drop-append-le n (take m l) (drop m l) (omega (arith, length-take-le m l g))) ∙ ap (drop n) (take-append-drop m l)
 
-module _ (d : Delivery) (values out : List ℕ) {rest : Delivery} {mid : List ℕ} {room bytes : ℕ} (er : room ≡ textRoom (d .kind) (length values) (length out)) (F : FilledPart d (take room values) mid bytes rest) where
+module _ (d : Delivery) (values out : List ℕ) {rest : Delivery} {mid : List ℕ} {room bytes : ℕ}
+    (er : room ≡ textRoom (d .kind) (length values) (length out)) (F : FilledPart d (take room values) mid bytes rest) where
   abbrev k′ : ℕ
   k′ = d .kind
 
@@ -195,7 +206,8 @@ module _ (d : Delivery) (values out : List ℕ) {rest : Delivery} {mid : List �
       omega (arith, c, le-of-mul-le-mul-right h (row k′ .wide))
 
   pub text-part : {out′ : List ℕ} {r : ℕ} → d .raw ≡ false
-      → Put (given (accepted k′ (length (take bytes (mid ++ drop room values))) (length out)) (linesOf k′ (take bytes (mid ++ drop room values)))) 0 out out′ r
+      → Put (given (accepted k′ (length (take bytes (mid ++ drop room values))) (length out)) (linesOf k′ (take bytes (mid ++ drop room values))))
+      0 out out′ r
       → Counts r out′
       → NextPart d values (mid ++ drop room values) out out′ r rest
   unfolding nextPlaces
@@ -203,18 +215,27 @@ module _ (d : Delivery) (values out : List ℕ) {rest : Delivery} {mid : List �
       let W = wordsFrom either (d .source) in
       let fill = bytesIn d p′ in
       let n = nextPlaces d (length values) (length out) in
-      let ep : p′ ≡ n = ap (placesOf k′ (d .left)) (long-room ∙ er) ∙ sym (ap (λ (b : Bool). placesOf k′ (d .left) (cond b (length out) (textRoom k′ (length values) (length out)))) e) in
+      let ep : p′ ≡ n =
+      ap (placesOf k′ (d .left)) (long-room ∙ er)
+      ∙ sym (ap (λ (b : Bool). placesOf k′ (d .left) (cond b (length out) (textRoom k′ (length values) (length out)))) e) in
       let shows : linesOf k′ fill ≡ shown (d .raw) k′ (bytesIn d n) = (λ i. shown (sym e i) k′ (bytesIn d (ep i))) in
       let whole : length fill % widthOf k′ ≡ 0 = ap (λ (x : ℕ). x % widthOf k′) (length-written k′ W p′) ∙ mul-mod-left p′ (widthOf k′) in
       let none : isKind k′ ≡ false → fill ≡ [] = λ h.
-      ap (λ (x : ℕ). bytesIn d x) (no-kind k′ (d .left) (length (take room values)) refl h) ∙ ap (bytesWritten k′ W) (zero-mul (widthOf k′)) ∙ none-written k′ W in
-      let given-fill = subst (λ (l : List ℕ). Put (given (accepted k′ (length l) (length out)) (linesOf k′ l)) 0 out out′ r) part-taken P in
+      ap (λ (x : ℕ). bytesIn d x) (no-kind k′ (d .left) (length (take room values)) refl h)
+      ∙ ap (bytesWritten k′ W) (zero-mul (widthOf k′))
+      ∙ none-written k′ W in
+      let given-fill =
+      subst (λ (l : List ℕ). Put (given (accepted k′ (length l) (length out)) (linesOf k′ l)) 0 out out′ r) part-taken P in
       let put : Put (linesOf k′ fill) 0 out out′ r = all-put k′ fill out none whole lines-room given-fill in
       let er′ : r ≡ length (linesOf k′ fill) = omega (arith, put .next) in
       let room′ : length (linesOf k′ fill) ≤ length out = omega (arith, C .0, put-length put) in
-      let made : out′ ≡ linesOf k′ fill ++ drop (length (linesOf k′ fill)) out = put-shown put (omega arith) ∙ ap (λ (x : ℕ). linesOf k′ fill ++ drop x out) (zero-add (length (linesOf k′ fill))) in
+      let made : out′ ≡ linesOf k′ fill ++ drop (length (linesOf k′ fill)) out =
+      put-shown put (omega arith) ∙ ap (λ (x : ℕ). linesOf k′ fill ++ drop x out) (zero-add (length (linesOf k′ fill))) in
       promised d values out
-      (stands ∙ ap (λ (x : ℕ). fill ++ drop x values) (sym long-part) ∙ ap (λ (x : ℕ). atStart (bytesIn d x) values) ep ∙ sym (ap (λ (b : Bool). cond b values (atStart (bytesIn d n) values)) e))
+      (stands
+      ∙ ap (λ (x : ℕ). fill ++ drop x values) (sym long-part)
+      ∙ ap (λ (x : ℕ). atStart (bytesIn d x) values) ep
+      ∙ sym (ap (λ (b : Bool). cond b values (atStart (bytesIn d n) values)) e))
       (ap length stands ∙ length-front values fill bytes (long-part ∙ sym (length-take-le bytes values (omega (arith, few, in-values)))))
       (made ∙ ap (λ (t : List ℕ). atStart t out) shows)
       (er′ ∙ ap length shows)
@@ -226,10 +247,12 @@ module _ (d : Delivery) (line : List ℕ) where
   pub unclosed : (d .left ≡ 0 → ⊥) → (Put (closingOf d (length line)) 0 line line 0) × Counts 0 line
   unfolding closingOf
   unclosed h =
-      (given-no (endsOf (d .first) (d .draws)) 0 line (ap (λ (b : Bool). b && leb 42 (length line)) (ne-eqb (d .left) 0 h)), counts 0 line (omega arith))
+      let t = ap (λ (b : Bool). b && leb 42 (length line)) (ne-eqb (d .left) 0 h) in
+      (given-no (endsOf (d .first) (d .draws)) 0 line t, counts 0 line (omega arith))
 
   pub closed : {line′ : List ℕ} {r : ℕ} → d .left ≡ 0 → Put (given (leb 42 (length line)) (endsOf (d .first) (d .draws))) 0 line line′ r
       → Put (closingOf d (length line)) 0 line line′ r
   unfolding closingOf
   closed {line′} {r} e P =
-      subst (λ (b : Bool). Put (given b (endsOf (d .first) (d .draws))) 0 line line′ r) (sym (ap (λ (b : Bool). b && leb 42 (length line)) (eq-eqb (d .left) 0 e))) P
+      let t = ap (λ (b : Bool). b && leb 42 (length line)) (eq-eqb (d .left) 0 e) in
+      subst (λ (b : Bool). Put (given b (endsOf (d .first) (d .draws))) 0 line line′ r) (sym t) P

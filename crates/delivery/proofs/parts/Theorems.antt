@@ -2,11 +2,11 @@
 use mathlib.Core.Bool.{Bool, true, false, cond}
 use mathlib.Core.List.{List, [], _∷_, _++_, append-nil, append-assoc}
 use mathlib.Core.Path.{_≡_, refl, sym, ap, _∙_, subst}
-use Prim.Native.Nat.{ℕ, suc, _+_, _-_, _*_, _%_, _^_, _≤_, _<_}
+use Prim.Native.Nat.{ℕ, _+_, _-_, _*_, _%_, _^_, _≤_, _<_}
 use native.Mathlib.Decide.{ℕ-discrete}
-use native.Mathlib.Nat.{zero-mul, add-zero, mul-mod-left, mod-eq-of-lt}
+use native.Mathlib.Nat.{zero-mul, mul-mod-left, mod-eq-of-lt}
 use native.Mathlib.Omega.{arith}
-use lib.ListN.{length, take, drop}
+use lib.ListN.{length, take}
 use lib.Seq.{take-at}
 use Rattle.base.specs.Engine.{wordsFrom}
 use Rattle.base.specs.Iterate.{iterate}
@@ -15,12 +15,12 @@ use Rattle.base.proofs.Iterate.{iterate-then}
 use Rattle.base.proofs.Lists.{along}
 use Rattle.fills.specs.FillBytes.{bytesWritten, bytesDraws}
 use Rattle.fills.specs.Kinds.{kinds}
-use Rattle.text.specs.lines.Lines.{linesOf}
 use Rattle.text.proofs.lines.Theorems.{lines-append}
 use Rattle.delivery.specs.source.Source.{nextOf, startOf, either}
 use Rattle.delivery.specs.declared.source.Source.{Source}
-use Rattle.delivery.specs.parts.Delivery.{widthOf, placesOf, bytesIn, drawsIn, shown, leftAfter, textRoom, nextPlaces, NextPart}
-use Rattle.delivery.specs.parts.Claims.{OneFill, TwoFills, TwoOrders, Call, Step, Run, restOf, handedBy, joinedIn, WholeFill, Joined, Useful, Stops}
+use Rattle.delivery.specs.parts.Delivery.{widthOf, bytesIn, drawsIn, shown, leftAfter, textRoom, nextPlaces}
+use Rattle.delivery.specs.parts.Claims.{OneFill, TwoFills, TwoOrders, Call, Step, Run}
+use Rattle.delivery.specs.parts.Claims.{restOf, handedBy, joinedIn, Joined, Useful, Stops}
 use Rattle.delivery.specs.declared.parts.Delivery.{Delivery}
 use Rattle.delivery.proofs.parts.Joining.{none-drawn, none-written, length-written, whole-16, whole-then, then-none}
 use Rattle.delivery.proofs.parts.Room.{Fits, fits}
@@ -42,10 +42,11 @@ pub two-orders : TwoOrders
 two-orders raw engine seed block first k n m h =
     let s : Source = iterate nextOf first (startOf engine seed block) in
     let w : ℕ = widthOf k in
+    let f : List ℕ → List ℕ = shown raw k in
     let after = sym (iterate-then nextOf first (bytesDraws k (n * w)) (startOf engine seed block)) in
-    ap (shown raw k) (whole-then either s k n m h .bytes)
+    ap f (whole-then either s k n m h .bytes)
     ∙ shown-both raw k (bytesWritten k (wordsFrom either s) (n * w)) _ (whole-bytes k n (wordsFrom either s))
-    ∙ ap (λ (x : Source). shown raw k (bytesWritten k (wordsFrom either s) (n * w)) ++ shown raw k (bytesWritten k (wordsFrom either x) (m * w))) after
+    ∙ ap (λ (x : Source). f (bytesWritten k (wordsFrom either s) (n * w)) ++ f (bytesWritten k (wordsFrom either x) (m * w))) after
 
 -- ---- a delivery with nothing left
 module _ (d : Delivery) (e : d .left ≡ 0) where
@@ -54,7 +55,8 @@ module _ (d : Delivery) (e : d .left ≡ 0) where
 
   nothing-shown : shown (d .raw) (d .kind) (bytesIn d (d .left)) ≡ []
   nothing-shown =
-      ap (shown (d .raw) (d .kind)) (ap (bytesWritten (d .kind) (wordsFrom either (d .source))) no-bytes ∙ none-written (d .kind) (wordsFrom either (d .source)))
+      let W = wordsFrom either (d .source) in
+      ap (shown (d .raw) (d .kind)) (ap (bytesWritten (d .kind) W) no-bytes ∙ none-written (d .kind) W)
       ∙ shown-none (d .kind) (d .raw)
 
   nothing-drawn : drawsIn d (d .left) ≡ 0
@@ -82,9 +84,11 @@ module _ (d : Delivery) (s : Call) (P : Step d s) where
 
   -- what was handed out
   handed : handedBy s ≡ shown (d .raw) (d .kind) (bytesIn d places)
-  handed = ap (take (s .part .bytes)) (P .writes) ∙ take-at (shown (d .raw) (d .kind) (bytesIn d places)) _ (s .part .bytes) (sym (P .count))
+  handed =
+      ap (take (s .part .bytes)) (P .writes) ∙ take-at (shown (d .raw) (d .kind) (bytesIn d places)) _ (s .part .bytes) (sym (P .count))
 
-  shown-parts : shown (d .raw) (d .kind) (bytesIn d (d .left)) ≡ handedBy s ++ shown (s .part .rest .raw) (s .part .rest .kind) (bytesIn (s .part .rest) (s .part .rest .left))
+  shown-parts : shown (d .raw) (d .kind) (bytesIn d (d .left))
+      ≡ handedBy s ++ shown (s .part .rest .raw) (s .part .rest .kind) (bytesIn (s .part .rest) (s .part .rest .left))
   shown-parts =
       let k : ℕ = d .kind in
       let W = wordsFrom either (d .source) in
@@ -98,11 +102,12 @@ module _ (d : Delivery) (s : Call) (P : Step d s) where
   draws-parts =
       ap (drawsIn d) all-places ∙ parted .draws ∙ ap (λ (x : Delivery). drawsIn d places + drawsIn x (x .left)) (sym (P .remains))
 
-  source-parts : iterate nextOf (drawsIn d (d .left)) (d .source) ≡ iterate nextOf (drawsIn (s .part .rest) (s .part .rest .left)) (s .part .rest .source)
+  source-parts : iterate nextOf (drawsIn d (d .left)) (d .source)
+      ≡ iterate nextOf (drawsIn (s .part .rest) (s .part .rest .left)) (s .part .rest .source)
   source-parts =
       ap (λ (n : ℕ). iterate nextOf n (d .source)) draws-parts
       ∙ iterate-then nextOf (drawsIn d places) (drawsIn (s .part .rest) (s .part .rest .left)) (d .source)
-      ∙ ap (λ (x : Source). iterate nextOf (drawsIn (s .part .rest) (s .part .rest .left)) x) (sym (ap (λ (x : Delivery). x .source) (P .remains)))
+      ∙ ap (iterate nextOf (drawsIn (s .part .rest) (s .part .rest .left))) (sym (ap (λ (x : Delivery). x .source) (P .remains)))
 
   -- the draws are counted where they are not too many
   counted-parts : d .draws + drawsIn d (d .left) < 2 ^ 64
@@ -118,8 +123,10 @@ module _ (d : Delivery) (s : Call) (P : Step d s) where
 record SoFar (d : Delivery) (calls : List Call) : Type 0 where
   shows : shown (d .raw) (d .kind) (bytesIn d (d .left))
       ≡ joinedIn calls ++ shown (restOf d calls .raw) (restOf d calls .kind) (bytesIn (restOf d calls) (restOf d calls .left))
-  source : iterate nextOf (drawsIn d (d .left)) (d .source) ≡ iterate nextOf (drawsIn (restOf d calls) (restOf d calls .left)) (restOf d calls .source)
-  draws : d .draws + drawsIn d (d .left) < 2 ^ 64 → restOf d calls .draws + drawsIn (restOf d calls) (restOf d calls .left) ≡ d .draws + drawsIn d (d .left)
+  source : iterate nextOf (drawsIn d (d .left)) (d .source)
+      ≡ iterate nextOf (drawsIn (restOf d calls) (restOf d calls .left)) (restOf d calls .source)
+  draws : d .draws + drawsIn d (d .left) < 2 ^ 64
+      → restOf d calls .draws + drawsIn (restOf d calls) (restOf d calls .left) ≡ d .draws + drawsIn d (d .left)
   first : restOf d calls .first ≡ d .first
 
 pub joined : Joined
@@ -160,5 +167,7 @@ stops d calls least most r u = go r u .less
     go none u = record { kind = refl; less = omega arith }
     go (then {c = s} {calls = calls} r P) u =
         let w = go r (u .1) in
-        let some : 0 < s .part .bytes = P .some (subst (λ (k : ℕ). 1 ≤ k) (sym (w .kind)) least) (subst (λ (k : ℕ). k ≤ length kinds) (sym (w .kind)) most) (u .0 .values) (u .0 .out) (u .0 .left) in
+        let least′ = subst (λ (k : ℕ). 1 ≤ k) (sym (w .kind)) least in
+        let most′ = subst (λ (k : ℕ). k ≤ length kinds) (sym (w .kind)) most in
+        let some : 0 < s .part .bytes = P .some least′ most′ (u .0 .values) (u .0 .out) (u .0 .left) in
         record { kind = ap (λ (x : Delivery). x .kind) (P .remains) ∙ w .kind; less = omega (arith, w .less, P .lessens some) }

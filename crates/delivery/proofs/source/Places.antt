@@ -1,8 +1,8 @@
 -- Where the words of a draw stand, engine by engine; and that no two stand at one place. Assumes nothing.
-use mathlib.Core.Bool.{Bool, true, false, cond}
+use mathlib.Core.Bool.{Bool, cond}
 use mathlib.Core.List.{List}
-use mathlib.Core.Path.{_≡_, refl, sym, ap, _∙_, subst}
-use Prim.Native.Nat.{ℕ, zero, suc, _+_, _-_, _*_, _/_, _%_, _^_, _≤_, _<_}
+use mathlib.Core.Path.{_≡_, sym, ap, _∙_}
+use Prim.Native.Nat.{ℕ, suc, _+_, _-_, _*_, _/_, _%_, _^_, _≤_, _<_}
 use native.Mathlib.Decide.{ℕ-discrete}
 use native.Mathlib.Omega.{arith}
 use borrow.Author.Tests.{eq-eqb, ne-eqb}
@@ -14,14 +14,15 @@ use Rattle.base.specs.Table.{table}
 use Rattle.base.proofs.Table.{getD-table}
 use Rattle.order.specs.Order.{lastBlock, lastDraw}
 use Rattle.philox.specs.block.Philox.{block}
-use Rattle.philox.specs.x8.Machine.{blockAt, fresh, sought, holding, past, lowerAt, upperAt, none8, wordsOf as philoxWords, nextOf as philoxNext}
+use Rattle.philox.specs.x8.Machine.{blockAt, fresh, sought, holding}
+use Rattle.philox.specs.x8.Machine.{lowerAt, upperAt, wordsOf as philoxWords, nextOf as philoxNext}
 use Rattle.philox.specs.declared.x8.Philox4x32X8.{Philox4x32X8}
-use Rattle.xoshiro.specs.scalar.Xoshiro256pp.{State, output, steps, jumps, seeded}
+use Rattle.xoshiro.specs.scalar.Xoshiro256pp.{output, steps}
 use Rattle.xoshiro.specs.x8.Calls.{placed, wordsOf as xoshiroWords, nextOf as xoshiroNext}
 use Rattle.xoshiro.proofs.x8.Draws.{lane-draws, word-at}
 use Rattle.xoshiro.proofs.x8.Theorems.{lanes-start}
 use Rattle.delivery.specs.source.Source.{wordsOf, nextOf, startOf}
-use Rattle.delivery.specs.source.Places.{Place, stepped, encrypted, lower, upper, wordAt, placeOf}
+use Rattle.delivery.specs.source.Places.{stepped, encrypted, lower, upper, wordAt, placeOf}
 use Rattle.delivery.proofs.source.Engines.{drawn-1, drawn-2}
 use Rattle.delivery.proofs.source.Philox.{even-draws}
 
@@ -29,11 +30,13 @@ use Rattle.delivery.proofs.source.Philox.{even-draws}
 module _ (engine b i j : ℕ) where
   place-1 : engine ≡ 1 → placeOf engine b i j ≡ stepped (8 * b % 2 ^ 64 + j) i
   unfolding placeOf
-  place-1 e = ap (λ (t : Bool). cond t (stepped (8 * b % 2 ^ 64 + j) i) (encrypted b ((8 * (i / 2) + j) % 2 ^ 64) (i % 2))) (eq-eqb engine 1 e)
+  place-1 e =
+      ap (λ (t : Bool). cond t (stepped (8 * b % 2 ^ 64 + j) i) (encrypted b ((8 * (i / 2) + j) % 2 ^ 64) (i % 2))) (eq-eqb engine 1 e)
 
   place-2 : (engine ≡ 1 → ⊥) → placeOf engine b i j ≡ encrypted b ((8 * (i / 2) + j) % 2 ^ 64) (i % 2)
   unfolding placeOf
-  place-2 e = ap (λ (t : Bool). cond t (stepped (8 * b % 2 ^ 64 + j) i) (encrypted b ((8 * (i / 2) + j) % 2 ^ 64) (i % 2))) (ne-eqb engine 1 e)
+  place-2 e =
+      ap (λ (t : Bool). cond t (stepped (8 * b % 2 ^ 64 + j) i) (encrypted b ((8 * (i / 2) + j) % 2 ^ 64) (i % 2))) (ne-eqb engine 1 e)
 
 -- ---- a word of Philox
 module _ (g : Philox4x32X8) (n j : ℕ) (h : j < 8) where
@@ -67,7 +70,10 @@ module _ (seed stream i j : ℕ) (h : j < 8) where
   even-word : i % 2 ≡ 0 → getD (philoxWords (iterate philoxNext i f)) j 0 ≡ lower (at ((8 * (i / 2) + j) % 2 ^ 64))
   even-word e =
       let q : i ≡ 2 * (i / 2) = omega arith in
-      ap (λ (m : ℕ). getD (philoxWords (iterate philoxNext m f)) j 0) q ∙ ap (λ (g : Philox4x32X8). getD (philoxWords g) j 0) even-at ∙ lower-word f n j h ∙ ap lower same-block
+      ap (λ (m : ℕ). getD (philoxWords (iterate philoxNext m f)) j 0) q
+      ∙ ap (λ (g : Philox4x32X8). getD (philoxWords g) j 0) even-at
+      ∙ lower-word f n j h
+      ∙ ap lower same-block
 
   odd-word : (i % 2 ≡ 0 → ⊥) → getD (philoxWords (iterate philoxNext i f)) j 0 ≡ upper (at ((8 * (i / 2) + j) % 2 ^ 64))
   unfolding iterate
@@ -78,7 +84,8 @@ module _ (seed stream i j : ℕ) (h : j < 8) where
       ∙ upper-word f n j h
       ∙ ap upper same-block
 
-  pub encrypted-word : getD (philoxWords (iterate philoxNext i f)) j 0 ≡ wordAt seed (encrypted stream ((8 * (i / 2) + j) % 2 ^ 64) (i % 2))
+  pub encrypted-word : getD (philoxWords (iterate philoxNext i f)) j 0
+      ≡ wordAt seed (encrypted stream ((8 * (i / 2) + j) % 2 ^ 64) (i % 2))
   unfolding wordAt
   encrypted-word = go (ℕ-discrete (i % 2) 0)
     where
@@ -90,17 +97,24 @@ module _ (seed stream i j : ℕ) (h : j < 8) where
       go (no e) = odd-word e ∙ sym (ap (λ (t : Bool). cond t (lower q) (upper q)) (ne-eqb (i % 2) 0 e))
 
 -- ---- a word of xoshiro256++
-pub stepped-word : (seed b i j : ℕ) → j < 8 → getD (xoshiroWords (iterate xoshiroNext i (placed seed b .rng))) j 0 ≡ wordAt seed (stepped (8 * b % 2 ^ 64 + j) i)
+pub stepped-word : (seed b i j : ℕ) → j < 8
+    → getD (xoshiroWords (iterate xoshiroNext i (placed seed b .rng))) j 0 ≡ wordAt seed (stepped (8 * b % 2 ^ 64 + j) i)
 unfolding wordAt
 stepped-word seed b i j h =
-    word-at (iterate xoshiroNext i (placed seed b .rng)) j h ∙ ap output (lane-draws i (placed seed b .rng) j h ∙ ap (steps i) (lanes-start seed b j h))
+    word-at (iterate xoshiroNext i (placed seed b .rng)) j h
+    ∙ ap output (lane-draws i (placed seed b .rng) j h ∙ ap (steps i) (lanes-start seed b j h))
 
-pub at-place : (engine seed b i j : ℕ) → j < 8 → getD (wordsOf (iterate nextOf i (startOf engine seed b))) j 0 ≡ wordAt seed (placeOf engine b i j)
+pub at-place : (engine seed b i j : ℕ) → j < 8
+    → getD (wordsOf (iterate nextOf i (startOf engine seed b))) j 0 ≡ wordAt seed (placeOf engine b i j)
 at-place engine seed b i j h = go (ℕ-discrete engine 1)
   where
     go : Dec (engine ≡ 1) → getD (wordsOf (iterate nextOf i (startOf engine seed b))) j 0 ≡ wordAt seed (placeOf engine b i j)
-    go (yes e) = ap (λ (l : List ℕ). getD l j 0) (drawn-1 e seed b i) ∙ stepped-word seed b i j h ∙ ap (wordAt seed) (sym (place-1 engine b i j e))
-    go (no e) = ap (λ (l : List ℕ). getD l j 0) (drawn-2 e seed b i) ∙ encrypted-word seed b i j h ∙ ap (wordAt seed) (sym (place-2 engine b i j e))
+    go (yes e) =
+        ap (λ (l : List ℕ). getD l j 0) (drawn-1 e seed b i) ∙ stepped-word seed b i j h ∙ ap (wordAt seed) (sym (place-1 engine b i j e))
+    go (no e) =
+        ap (λ (l : List ℕ). getD l j 0) (drawn-2 e seed b i)
+        ∙ encrypted-word seed b i j h
+        ∙ ap (wordAt seed) (sym (place-2 engine b i j e))
 
 -- ---- one place each
 same-stepped : (b c i k j l : ℕ) → b ≤ 2 ^ 61 - 1 → c ≤ 2 ^ 61 - 1 → j < 8 → l < 8
@@ -127,7 +141,8 @@ module _ (engine : ℕ) where
   unfolding lastDraw
   last-2 e = ap (λ (t : Bool). cond t (2 ^ 64 - 1) (2 ^ 62 - 1)) (ne-eqb engine 1 e)
 
-  pub one-each : (b c i k j l : ℕ) → b ≤ lastBlock engine → c ≤ lastBlock engine → i ≤ lastDraw engine → k ≤ lastDraw engine → j < 8 → l < 8
+  pub one-each : (b c i k j l : ℕ) → b ≤ lastBlock engine → c ≤ lastBlock engine → i ≤ lastDraw engine → k ≤ lastDraw engine → j < 8
+      → l < 8
       → placeOf engine b i j ≡ placeOf engine c k l → (b ≡ c) × (i ≡ k) × (j ≡ l)
   one-each b c i k j l hb hc hi hk hj hl p = go (ℕ-discrete engine 1)
     where

@@ -1,5 +1,6 @@
--- What is claimed of the work of the program deliver: it reads an order (`order::read`), begins its delivery, calls `next_part` of `parts` until nothing
--- is left, and writes what each call hands out, and then the closing line. Each claim is proved in proofs/claims/Theorems.antt.
+-- What is claimed of the work of the program deliver: it reads an order (`order::read`), begins its delivery, calls `next_part` of
+-- `parts` until nothing is left, and writes what each call hands out, and then the closing line. Each claim is proved in
+-- proofs/claims/Theorems.antt.
 use mathlib.Core.Bool.{true, false}
 use mathlib.Core.List.{List, _++_}
 use mathlib.Core.Path.{_≡_}
@@ -40,17 +41,20 @@ Ends = (o : Order) (calls : List Call) → Accepted o → Whole o calls
 
 -- and the closing line, of the draws that the parts counted, is FIRST and FIRST + the table's draws for COUNT places
 abbrev pub Closes : Type 0
-Closes = (o : Order) (calls : List Call) (room : ℕ) → Accepted o → Whole o calls → 42 ≤ room → closingOf (restOf (begun o) calls) room ≡ endsOf (o .first) (o .draws)
+Closes = (o : Order) (calls : List Call) (room : ℕ) → Accepted o → Whole o calls → 42 ≤ room
+    → closingOf (restOf (begun o) calls) room ≡ endsOf (o .first) (o .draws)
 
 -- an order is delivered by COUNT calls at most, each with buffers that are large enough
 abbrev pub Finishes : Type 0
-Finishes = (o : Order) (calls : List Call) → Accepted o → Run (begun o) calls → lists.Each (λ earlier s. Useful (restOf (begun o) earlier) s) calls → length calls ≤ o .count
+Finishes = (o : Order) (calls : List Call) → Accepted o → Run (begun o) calls
+    → lists.Each (λ earlier s. Useful (restOf (begun o) earlier) s) calls → length calls ≤ o .count
 
 -- an order of n more values is the order, where COUNT is a number of whole groups, and an order of n values with END as its FIRST
 abbrev pub Resumes : Type 0
 Resumes = (o : Order) (n : ℕ) → Accepted o → o .count % groupOf (o .kind) ≡ 0
     → shown (o .raw) (o .kind) (ordered (o .engine) (o .seed) (o .block) (o .first) (o .kind) (o .count + n))
-    ≡ shown (o .raw) (o .kind) (bytesOf o) ++ shown (o .raw) (o .kind) (ordered (o .engine) (o .seed) (o .block) (o .first + o .draws) (o .kind) n)
+    ≡ shown (o .raw) (o .kind) (bytesOf o)
+    ++ shown (o .raw) (o .kind) (ordered (o .engine) (o .seed) (o .block) (o .first + o .draws) (o .kind) n)
 
 -- ---- which draws an order reads
 -- draw i is one of those from FIRST up to END
@@ -66,7 +70,8 @@ drawOf o i = wordsOf (iterate nextOf i (startOf (o .engine) (o .seed) (o .block)
 abbrev pub bytesFrom : (ℕ → List ℕ) → Order → List ℕ
 bytesFrom W o = bytesWritten (o .kind) (λ m. W (o .first + m)) (o .count * widthOf (o .kind))
 
--- an order's bytes are made of its own draws from FIRST up to END, and of no other: where two streams agree on these, the bytes are the same
+-- an order's bytes are made of its own draws from FIRST up to END, and of no other: where two streams agree on these, the bytes are the
+-- same
 pub record MadeOf (o : Order) : Type 0 where
   pub own : bytesOf o ≡ bytesFrom (drawOf o) o
   pub only : (U W : ℕ → List ℕ) → ((i : ℕ) → Reads o i → U i ≡ W i) → bytesFrom U o ≡ bytesFrom W o
@@ -82,5 +87,6 @@ pub data Apart (o p : Order) : Type 0 where
 
 -- then they read different draws: no word of a draw that one reads stands at the place of a word that the other reads
 abbrev pub NoDrawTwice : Type 0
-NoDrawTwice = (o p : Order) → Accepted o → Accepted p → o .engine ≡ p .engine → Apart o p → (i k j l : ℕ) → Reads o i → Reads p k → j < 8 → l < 8
+NoDrawTwice =
+    (o p : Order) → Accepted o → Accepted p → o .engine ≡ p .engine → Apart o p → (i k j l : ℕ) → Reads o i → Reads p k → j < 8 → l < 8
     → placeOf (o .engine) (o .block) i j ≡ placeOf (p .engine) (p .block) k l → ⊥

@@ -8,7 +8,7 @@ use Rattle.base.specs.Engine.{Engine, wordsFrom}
 use Rattle.base.specs.Iterate.{iterate}
 use Rattle.base.specs.Lists as lists
 use Rattle.fills.specs.FillBytes.{bytesWritten, bytesDraws}
-use Rattle.fills.specs.Kinds.{kinds, kindAt}
+use Rattle.fills.specs.Kinds.{kinds}
 use Rattle.delivery.specs.source.Source.{nextOf, startOf, either}
 use Rattle.delivery.specs.parts.Delivery.{widthOf, groupOf, bytesIn, drawsIn, shown, NextPart}
 use Rattle.delivery.specs.declared.parts.Delivery.{Delivery}
@@ -33,7 +33,8 @@ ordered engine seed block first k n = bytesWritten k (wordsFrom either (iterate 
 abbrev pub TwoOrders : Type 0
 TwoOrders = (raw : Bool) (engine seed block first k n m : ℕ) → n % groupOf k ≡ 0
     → shown raw k (ordered engine seed block first k (n + m))
-    ≡ shown raw k (ordered engine seed block first k n) ++ shown raw k (ordered engine seed block (first + bytesDraws k (n * widthOf k)) k m)
+    ≡ shown raw k (ordered engine seed block first k n)
+    ++ shown raw k (ordered engine seed block (first + bytesDraws k (n * widthOf k)) k m)
 
 -- ---- a delivery in parts
 -- a call of next_part: its two buffers at the call and at the return, and what was handed back
@@ -44,7 +45,7 @@ pub record Call : Type 0 where
   pub out′ : List ℕ
   pub part : Part
 
--- what next_part promises of the call s on the delivery d: its `ensures`
+-- what next_part promises of the call s on the delivery d: its `ensures`, by which the program's loop shows `Reached`, below
 abbrev pub Step : Delivery → Call → Type 0
 Step d s = NextPart d (s .values) (s .values′) (s .out) (s .out′) (s .part .bytes) (s .part .rest)
 
@@ -74,8 +75,8 @@ pub record Reached (d r : Delivery) : Type 0 where
   pub run : Run d calls
   pub end : r ≡ restOf d calls
 
--- ---- where nothing is left, what was handed out joined is the one fill of all places of the delivery, the source stands where its draws end,
--- and they are counted, if there are less than 2^64
+-- ---- where nothing is left, what was handed out joined is the one fill of all places of the delivery, the source stands where its draws
+-- end, and they are counted, if there are less than 2^64
 pub record WholeFill (d : Delivery) (text : List ℕ) (rest : Delivery) : Type 0 where
   pub handed : text ≡ shown (d .raw) (d .kind) (bytesIn d (d .left))
   pub source : rest .source ≡ iterate nextOf (drawsIn d (d .left)) (d .source)
@@ -85,8 +86,8 @@ pub record WholeFill (d : Delivery) (text : List ℕ) (rest : Delivery) : Type 0
 abbrev pub Joined : Type 0
 Joined = (d : Delivery) (calls : List Call) → Run d calls → restOf d calls .left ≡ 0 → WholeFill d (joinedIn calls) (restOf d calls)
 
--- ---- and it comes to that: a call that found something left, and buffers that are large enough, leaves less. So there are no more such calls,
--- one after another, than places
+-- ---- and it comes to that: a call that found something left, and buffers that are large enough, leaves less. So there are no more such
+-- calls, one after another, than places
 pub record Useful (d : Delivery) (s : Call) : Type 0 where
   pub left : 0 < d .left
   pub values : 128 ≤ length (s .values)

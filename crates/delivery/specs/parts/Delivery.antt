@@ -1,4 +1,5 @@
--- One order delivered part by part: where it begins, what the next part holds and how it is written, what is left after it, and the closing line.
+-- One order delivered part by part: where it begins, what the next part holds and how it is written, what is left after it, and the
+-- closing line.
 use mathlib.Core.Bool.{Bool, cond, _&&_}
 use mathlib.Core.List.{List, _++_}
 use mathlib.Core.Path.{_≡_}
@@ -86,21 +87,22 @@ nextPlaces d values out = placesOf (d .kind) (d .left) (cond (d .raw) out (textR
 abbrev pub atStart : List ℕ → List ℕ → List ℕ
 atStart t l = t ++ drop (length t) l
 
--- The next part of the delivery d: the buffers were `values` and `out` and are `values′` and `out′`, and `bytes` and `rest` were handed back.
+-- The next part of the delivery d: the buffers were `values` and `out` and are `values′` and `out′`, and `bytes` and `rest` were handed
+-- back.
 pub record NextPart (d : Delivery) (values values′ out out′ : List ℕ) (bytes : ℕ) (rest : Delivery) : Type 0 where
   pub makes : values′ ≡ cond (d .raw) values (atStart (bytesIn d (nextPlaces d (length values) (length out))) values)
   pub writes : out′ ≡ atStart (shown (d .raw) (d .kind) (bytesIn d (nextPlaces d (length values) (length out)))) out
   pub count : bytes ≡ length (shown (d .raw) (d .kind) (bytesIn d (nextPlaces d (length values) (length out))))
   pub remains : rest ≡ leftAfter d (nextPlaces d (length values) (length out))
-  -- what follows from these, for a caller: the buffers keep their lengths, the part lies in `out`, less is left unless it is empty, and it is
-  -- empty only where nothing is left, the kind is outside the table, or a buffer is too small
+  -- what follows from these, for a caller: the buffers keep their lengths, the part lies in `out`, less is left unless it is empty, and
+  -- it is empty only where nothing is left, the kind is outside the table, or a buffer is too small
   pub same : (length values′ ≡ length values) × (length out′ ≡ length out)
   pub inside : bytes ≤ length out′
   pub long : bytes ≡ length (take bytes out′)
   pub lessens : 0 < bytes → rest .left < d .left
   pub some : 1 ≤ d .kind → d .kind ≤ length kinds → 128 ≤ length values → 400 ≤ length out → 0 < d .left → 0 < bytes
 
--- ---- the closing line, in a buffer of `room` bytes: where nothing is left, the first draw of the delivery and the first after those it made. It
--- has 42 bytes at most
+-- ---- the closing line, in a buffer of `room` bytes: where nothing is left, the first draw of the delivery and the first after those it
+-- made. It has 42 bytes at most
 unfoldable pub closingOf : Delivery → (room : ℕ) → List ℕ
 closingOf d room = given (eqb (d .left) 0 && leb 42 room) (endsOf (d .first) (d .draws))

@@ -1,4 +1,5 @@
--- What is claimed of a source: its draws hand out its engine's words, each from a place of its own. Each claim is proved in proofs/source/Theorems.antt.
+-- What is claimed of a source: its draws hand out its engine's words, each from a place of its own. Each claim is proved in
+-- proofs/source/Theorems.antt.
 use mathlib.Core.Path.{_≡_}
 use Prim.Native.Nat.{ℕ, _≤_, _<_}
 use lib.ListN.{getD}
@@ -19,9 +20,10 @@ PhiloxDraws = (engine seed block m : ℕ) → (engine ≡ 1 → ⊥) → wordsOf
 
 -- word j of draw i is the word at its place
 abbrev pub AtItsPlace : Type 0
-AtItsPlace = (engine seed block i j : ℕ) → j < 8 → getD (wordsOf (iterate nextOf i (startOf engine seed block))) j 0 ≡ wordAt seed (placeOf engine block i j)
+AtItsPlace = (engine seed block i j : ℕ) → j < 8
+    → getD (wordsOf (iterate nextOf i (startOf engine seed block))) j 0 ≡ wordAt seed (placeOf engine block i j)
 
 -- no place has two words, of the blocks and draws that an order may name
 abbrev pub OneWordEach : Type 0
-OneWordEach = (engine b c i k j l : ℕ) → b ≤ lastBlock engine → c ≤ lastBlock engine → i ≤ lastDraw engine → k ≤ lastDraw engine → j < 8 → l < 8
-    → placeOf engine b i j ≡ placeOf engine c k l → (b ≡ c) × (i ≡ k) × (j ≡ l)
+OneWordEach = (engine b c i k j l : ℕ) → b ≤ lastBlock engine → c ≤ lastBlock engine → i ≤ lastDraw engine → k ≤ lastDraw engine
+    → j < 8 → l < 8 → placeOf engine b i j ≡ placeOf engine c k l → (b ≡ c) × (i ≡ k) × (j ≡ l)

@@ -6,8 +6,8 @@ use Rattle.base.specs.Quad.{Quad}
 use Rattle.philox.specs.block.Philox.{block}
 use Rattle.xoshiro.specs.scalar.Xoshiro256pp.{output, steps, jumps, seeded}
 
--- a word of xoshiro256++ stands so many jumps after the seed's state, and then so many steps; one of Philox in a block of a stream of the key,
--- in its lower two words or, where `half` is not 0, in its upper two
+-- a word of xoshiro256++ stands so many jumps after the seed's state, and then so many steps; one of Philox in a block of a stream of the
+-- key, in its lower two words or, where `half` is not 0, in its upper two
 pub data Place : Type 0 where
   stepped : (jumped steps : ℕ) → Place
   encrypted : (stream number half : ℕ) → Place

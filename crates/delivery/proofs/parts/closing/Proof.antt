@@ -10,7 +10,8 @@ returns c = unclosed _ _ (c .if1 .taken)
 returns-2 : tie.Need-returns-2
 returns-2 c =
     let e = c .before .before .put-ends .ensures in
-    (closed (c .before .before .before .before .before .before .before .args .d) _ (c .before .before .before .before .if1 .left) (e .0), e .1)
+    let i = c .before .before .before .before in
+    (closed (i .before .before .before .args .d) _ (i .if1 .left) (e .0), e .1)
 
 pub closing-spec : {M : Type 1} → statement M
 closing-spec = tie.close (tie.spec returns (λ c κs. search needs) (λ c. search needs) returns-2)

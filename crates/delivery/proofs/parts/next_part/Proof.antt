@@ -22,14 +22,16 @@ slice-aggregate-put-lines : tie.Need-slice-aggregate-put-lines
 slice-aggregate-put-lines c =
     let f = c .before .before .before .before in
     let t = f .before .before in
-    sym (length-take-le _ _ (part-inside _ _ (t .before .before .before .before .args .out .now) (t .text-room .ensures .0) (f .fill-part2 .ensures)))
+    let out = t .before .before .before .before .args .out .now in
+    sym (length-take-le _ _ (part-inside _ _ out (t .text-room .ensures .0) (f .fill-part2 .ensures)))
 
 returns-2 : tie.Need-returns-2
 returns-2 c =
     let p = c .before .before in
     let f = p .before .before .before .before .before .before in
     let t = f .before .before in
-    text-part _ _ _ (t .text-room .ensures .0) (f .fill-part2 .ensures) (t .before .if1 .left) (p .put-lines .ensures .0) (p .put-lines .ensures .1)
+    let l = p .put-lines .ensures in
+    text-part _ _ _ (t .text-room .ensures .0) (f .fill-part2 .ensures) (t .before .if1 .left) (l .0) (l .1)
 
 pub next-part-spec : {M : Type 1} → statement M
 next-part-spec =
