@@ -66,7 +66,7 @@ leftAfter d n =
 unfoldable pub placesOf : ℕ → ℕ → ℕ → ℕ
 placesOf k left n = cond (isKind k) (min left (16 * (n / (16 * widthOf k)))) 0
 
--- the values of a part stood in a buffer that was `before` and is `after`, from its start on; the bytes behind them are as they were
+-- the values of a part stand in a buffer that was `before` and is `after`, from its start on; the bytes behind them are as they were
 pub record FilledPart (d : Delivery) (before after : List ℕ) (bytes : ℕ) (rest : Delivery) : Type 0 where
   pub count : bytes ≡ placesOf (d .kind) (d .left) (length before) * widthOf (d .kind)
   pub writes : after ≡ bytesIn d (placesOf (d .kind) (d .left) (length before)) ++ drop bytes before
