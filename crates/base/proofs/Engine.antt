@@ -67,8 +67,8 @@ module _ {G : Type 0} {E : Engine G} {g : G} where
       }
 
 -- draws stored from the first place on: a buffer that has room for them holds them
-pub held-at-first : {G : Type 0} {E : Engine G} {g g′ : G} {m draws : ℕ} {buf after : List ℕ} → EachEight E → DrawnAt E g 0 m buf after draws g′
-    → m * 8 ≤ length buf → (i : ℕ) → i < m → drawOf after i ≡ wordsFrom E g i
+pub held-at-first : {G : Type 0} {E : Engine G} {g g′ : G} {m draws : ℕ} {buf after : List ℕ} → EachEight E
+    → DrawnAt E g 0 m buf after draws g′ → m * 8 ≤ length buf → (i : ℕ) → i < m → drawOf after i ≡ wordsFrom E g i
 unfolding drawOf drawnWords
 held-at-first {G} {E} {g} {g′} {m} {draws} {buf} {after} eights D room i h =
     ext-getD 0 (table 8 A) (wordsFrom E g i) (length-table 8 A ∙ sym (eights (iterate (E .next) i g)))

@@ -47,13 +47,17 @@ drawn-filled {G} {E} {rng} {rng′} {after} {draws} buf n m F en hn =
     made : draws ≡ m
     made = F .count ∙ omega (arith, len)
 
+    same : (k : ℕ) → 1 * (k / 8) + 0 ≡ k / 8
+    same k = omega arith
+
     words : after ≡ v
     words =
         F .writes ∙ ap (λ (k : ℕ). table k (element u64s W)) len
-        ∙ table-same (m * 8) (element u64s W) _ (λ k h. let e : 1 * (k / 8) + 0 ≡ k / 8 = omega arith in ap (λ (q : ℕ). getD (W q) (k % 8) 0) e)
+        ∙ table-same (m * 8) (element u64s W) _ (λ k h. ap (λ (q : ℕ). getD (W q) (k % 8) 0) (same k))
 
 -- draws keep a buffer's length
-pub drawn-long : {G : Type 0} {E : Engine G} {g g′ : G} {at m : ℕ} {a b : List ℕ} {draws : ℕ} → DrawnAt E g at m a b draws g′ → length b ≡ length a
+pub drawn-long : {G : Type 0} {E : Engine G} {g g′ : G} {at m : ℕ} {a b : List ℕ} {draws : ℕ} → DrawnAt E g at m a b draws g′
+    → length b ≡ length a
 drawn-long {E = E} {g} {at = at} {m} {a} D = ap length (D .writes) ∙ length-stored a at (drawnWords E m g)
 
 -- ---- q groups of a buffer, stored one after another

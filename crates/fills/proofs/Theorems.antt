@@ -3,7 +3,8 @@ use mathlib.Core.Bool.{Bool, true, false, cond, _&&_}
 use mathlib.Core.List.{List, [], _∷_, _++_, map}
 use mathlib.Core.Path.{_≡_, refl, sym, ap, ap₂, _∙_}
 use Prim.Native.Nat.{ℕ, zero, suc, _+_, _*_, _/_, _%_, _^_, _<_, _≤_}
-use native.Mathlib.Nat.{not-suc-le-zero, le-of-suc-le-suc, div-eq-of-eq-mul-left, div-lt-iff-lt-mul, div-div-eq-div-mul, mul-suc, mul-comm, mul-le-mul-left, pow-suc}
+use native.Mathlib.Nat.{not-suc-le-zero, le-of-suc-le-suc, mul-suc, mul-comm, mul-le-mul-left, pow-suc}
+use native.Mathlib.Nat.{div-eq-of-eq-mul-left, div-lt-iff-lt-mul, div-div-eq-div-mul}
 use native.Mathlib.Omega.{arith}
 use borrow.Author.Tests.{ltb-true, ltb-false, leb-true, eqb-true, le-leb, lt-leb, eq-eqb, ne-eqb}
 use lib.Dec.{ltb, leb, eqb}
@@ -23,7 +24,8 @@ use Rattle.math.specs.BoxMuller.{cosHalf, sinHalf}
 use Rattle.fills.specs.Fill.{Kind, roundUp, drawsFor, element}
 use Rattle.fills.specs.Kinds.{lows, highs, u64s, u32s, f32s, f64s, normalsOf, normalF32s, normalF64s, kindAt}
 use Rattle.fills.specs.FillBytes.{bytesOf, refusalOf, elements, bytesWritten, bytesDraws}
-use Rattle.fills.specs.Claims.{byHalf, u64At, u32At, f32At, f64At, normalF32At, normalF64At, Row, Row1, Row2, Row3, Row4, Row5, Row6, KindNumbers, DrawsAndWidths, SixKinds}
+use Rattle.fills.specs.Claims.{byHalf, u64At, u32At, f32At, f64At, normalF32At, normalF64At}
+use Rattle.fills.specs.Claims.{Row, Row1, Row2, Row3, Row4, Row5, Row6, KindNumbers, DrawsAndWidths, SixKinds}
 use Rattle.fills.specs.Claims.{Refusals, BytesOfTheFill, Places, PlacesOfRows, BytePlaces, BytesOfRows, AgreeBelow, OnlyItsDraws}
 use Rattle.fills.proofs.Filling.{Sound}
 use Rattle.fills.proofs.Rounding.{round-covers}
@@ -85,20 +87,28 @@ unfolding kindAt
 row-2 words h k =
     let q : ℕ = k / 16 in
     let w : List ℕ = words q in
-    let start : element u32s words k ≡ getD (lows w ++ highs w) (k % 16) 0 = ap (λ (x : List ℕ). getD (lows x ++ highs x) (k % 16) 0) (one-draw words q) in
+    let r : ℕ = k % 16 in
+    let i< : r % 8 < 8 = omega arith in
+    let long = length-lows w (h q) in
+    let start = ap (λ (x : List ℕ). getD (lows x ++ highs x) r 0) (one-draw words q) in
+    let low = low-at w (h q) (r % 8) i< in
+    let high = high-at w (h q) (r % 8) i< in
     by-half k
-    (λ l. start ∙ first-half (lows w) (highs w) (length-lows w (h q)) (k % 16) 0 l ∙ low-at w (h q) (k % 16 % 8) (omega arith) ∙ ap (λ (i : ℕ). getD w i 0 % 2 ^ 32) (omega arith))
-    (λ l. start ∙ second-half (lows w) (highs w) (length-lows w (h q)) (k % 16) 0 l (omega arith) ∙ high-at w (h q) (k % 16 % 8) (omega arith) ∙ ap (λ (i : ℕ). getD w i 0 / 2 ^ 32) (omega arith))
+    (λ l. start ∙ first-half (lows w) (highs w) long r 0 l ∙ low ∙ ap (λ (i : ℕ). getD w i 0 % 2 ^ 32) (omega arith))
+    (λ l. start ∙ second-half (lows w) (highs w) long r 0 l (omega arith) ∙ high ∙ ap (λ (i : ℕ). getD w i 0 / 2 ^ 32) (omega arith))
 
 pub row-3 : Row3
 unfolding kindAt
 row-3 words h k =
     let w : List ℕ = words (1 * (k / 16) + 0) in
-    getD-map (unit binary32) (lows w ++ highs w) (k % 16) 0 _ (omega (arith, halves-long w (h (1 * (k / 16) + 0)))) ∙ ap (unit binary32) (row-2 words h k)
+    getD-map (unit binary32) (lows w ++ highs w) (k % 16) 0 _ (omega (arith, halves-long w (h (1 * (k / 16) + 0))))
+    ∙ ap (unit binary32) (row-2 words h k)
 
 pub row-4 : Row4
 unfolding kindAt
-row-4 words h k = getD-map (unit binary64) (words (1 * (k / 8) + 0)) (k % 8) 0 _ (omega (arith, h (1 * (k / 8) + 0))) ∙ ap (unit binary64) (row-1 words h k)
+row-4 words h k =
+    let w : List ℕ = words (1 * (k / 8) + 0) in
+    getD-map (unit binary64) w (k % 8) 0 _ (omega (arith, h (1 * (k / 8) + 0))) ∙ ap (unit binary64) (row-1 words h k)
 
 -- the halves of Box-Muller, from words a and b
 module _ (f : Format) (a b : List ℕ) (ha : length a ≡ 8) (hb : length b ≡ 8) (r : ℕ) (d : Float) where
@@ -240,8 +250,9 @@ byte-places number says is words h n after e k j l b =
     let K = kindAt number .kind in
     let f : ℕ → kindAt number .Element = element K words in
     let m : ℕ = elements number n in
+    let l′ : k < length (table m f) = omega (arith, length-table m f) in
     ap (λ (t : List ℕ). getD t (k * K .width + j) 0) e
-    ∙ getD-flat (bytesOf K) (K .width) (λ x. length-leBytes (K .width) (K .bits x)) (table m f) k j (K .blank) (omega (arith, length-table m f)) b
+    ∙ getD-flat (bytesOf K) (K .width) (λ x. length-leBytes (K .width) (K .bits x)) (table m f) k j (K .blank) l′ b
     ∙ ap (λ (x : kindAt number .Element). getD (bytesOf K x) j 0) (getD-table m f k (K .blank) l ∙ is words h k)
     ∙ byte-of (K .width) (K .bits (says words k)) j b
 
@@ -262,9 +273,11 @@ bytes-of-rows =
 group-of : (n w i : ℕ) → 0 < w → i < n → i / w < roundUp n w
 group-of n w i pos h = div-lt-iff-lt-mul pos .1 (omega (arith, round-covers n w pos))
 
-only-draws : {A : Type 0} (K : Kind A) → Sound K → (n : ℕ) (U W : ℕ → List ℕ) → AgreeBelow (drawsFor K n) U W → table n (element K U) ≡ table n (element K W)
+only-draws : {A : Type 0} (K : Kind A) → Sound K → (n : ℕ) (U W : ℕ → List ℕ) → AgreeBelow (drawsFor K n) U W
+    → table n (element K U) ≡ table n (element K W)
 only-draws K sound n U W same =
-    table-same n (element K U) (element K W) (λ i h. ap (λ (l : List _). getD l (i % w) (K .blank)) (sound .own _ _ (λ m b. same (d * (i / w) + m) (below i m h b))))
+    table-same n (element K U) (element K W)
+    (λ i h. ap (λ (l : List _). getD l (i % w) (K .blank)) (sound .own _ _ (λ m b. same (d * (i / w) + m) (below i m h b))))
   where
     w : ℕ
     w = K .places

@@ -167,7 +167,8 @@ pub record BytesOfRows : Type 0 where
   pub bytes5 : BytePlaces normalF32At (toBits binary32) 5 4
   pub bytes6 : BytePlaces normalF64At (toBits binary64) 6 8
 
--- ---- a fill depends on no draw at or past its count: two streams of words that agree on its draws give the same elements and the same bytes
+-- ---- a fill depends on no draw at or past its count: two streams of words that agree on its draws give the same elements and
+-- the same bytes
 abbrev pub AgreeBelow : ℕ → (ℕ → List ℕ) → (ℕ → List ℕ) → Type 0
 AgreeBelow d U W = (m : ℕ) → m < d → U m ≡ W m
 

@@ -144,10 +144,12 @@ long-of {n} {high} {low} e h =
     λ i. record { high = eh i; low = el i }
 
 -- a number that is held in two parts is written where it has room
-pub long-held : (n : ℕ) {at r : ℕ} {l l′ : List ℕ} (w : Long) → w ≡ longOf n → at + length (decimal n) ≤ length l → Put (given (fitting w at (length l)) (decimal (valueOf w))) at l l′ r → Put (decimal n) at l l′ r
+pub long-held : (n : ℕ) {at r : ℕ} {l l′ : List ℕ} (w : Long) → w ≡ longOf n → at + length (decimal n) ≤ length l
+    → Put (given (fitting w at (length l)) (decimal (valueOf w))) at l l′ r → Put (decimal n) at l l′ r
 unfolding given
 long-held n {at} {r} {l} {l′} w held h p =
     let value : valueOf w ≡ n = ap valueOf held ∙ div-add-mod' n (10 ^ 18) in
     let low : w .low ≡ n % 10 ^ 18 = ap (λ (x : Long). x .low) held in
-    let e : leb (at + length (decimal (valueOf w))) (length l) ≡ true = ap (λ (v : ℕ). leb (at + length (decimal v)) (length l)) value ∙ le-leb (at + length (decimal n)) (length l) h in
+    let fits : ℕ → Bool = λ v. leb (at + length (decimal v)) (length l) in
+    let e : fits (valueOf w) ≡ true = ap fits value ∙ le-leb (at + length (decimal n)) (length l) h in
     subst (λ (t : List ℕ). Put t at l l′ r) (ap decimal value) (rw (tested w (omega (arith, low)) at (length l) true e) at p)

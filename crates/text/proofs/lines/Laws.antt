@@ -161,8 +161,8 @@ lines-of-elements k (x ∷ xs) h =
 sum-short : (a b : ℕ) → a < 2 ^ 64 → b < 2 ^ 64 → length (decimal (a + b)) ≤ 20
 sum-short a b h g = decimal-long 19 (a + b) (omega arith)
 
-module _ {a b at m : ℕ} {l l′ : List ℕ} (w : Long) (ha : a < 2 ^ 64) (hb : b < 2 ^ 64) (held : w ≡ longOf (a + b)) (room : at + 21 ≤ length l)
-    (p : Put (given (fitting w at (length l)) (decimal (valueOf w))) at l l′ m) where
+module _ {a b at m : ℕ} {l l′ : List ℕ} (w : Long) (ha : a < 2 ^ 64) (hb : b < 2 ^ 64) (held : w ≡ longOf (a + b))
+    (room : at + 21 ≤ length l) (p : Put (given (fitting w at (length l)) (decimal (valueOf w))) at l l′ m) where
   sum-digits : Put (decimal (a + b)) at l l′ m
   sum-digits = long-held (a + b) w held (omega (arith, sum-short a b ha hb)) p
 
