@@ -23,4 +23,6 @@ returns c =
     subst (λ (d : Delivery). Reached d (w .write-parts .result)) (w .before .before .before .begin .ensures) (w .write-parts .ensures)
 
 pub deliver-spec : {M : Type 1} → statement M
-deliver-spec = tie.close (tie.spec (λ c κs. search needs) (λ c κs. search needs) (λ c κs. search needs) (λ c. search needs) (λ c. search needs) write-parts-requires returns)
+deliver-spec =
+    tie.close (tie.spec (λ c κs. search needs) (λ c κs. search needs) (λ c κs. search needs) (λ c. search needs) (λ c. search needs)
+    write-parts-requires returns)

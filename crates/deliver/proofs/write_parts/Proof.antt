@@ -38,4 +38,6 @@ returns-2 c = c .before .before .loop .inv .2 .reached
 
 pub write-parts-spec : {M : Type 1} → statement M
 write-parts-spec =
-    tie.close (tie.spec Inv-loop μ-loop loop-holds (λ c κs. search needs) (λ c. search needs) (λ c. search needs) (λ c κs. search needs) (λ c κs. search needs) (λ c. search needs) (λ c. search needs) returns loop-less loop-again (λ c. search needs) (λ c. search needs) returns-2)
+    tie.close (tie.spec Inv-loop μ-loop loop-holds (λ c κs. search needs) (λ c. search needs) (λ c. search needs) (λ c κs. search needs)
+    (λ c κs. search needs) (λ c. search needs) (λ c. search needs) returns loop-less loop-again (λ c. search needs) (λ c. search needs)
+    returns-2)

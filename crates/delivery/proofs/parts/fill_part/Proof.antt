@@ -19,7 +19,8 @@ slice-relend-prefix-fill-bytes : tie.Need-slice-relend-prefix-fill-bytes
 slice-relend-prefix-fill-bytes c = bytes-fit _ _ _ _ (c .width .ensures .0) (c .before .places .ensures .2)
 
 slice-aggregate-fill-bytes : tie.Need-slice-aggregate-fill-bytes
-slice-aggregate-fill-bytes c = sym (length-take-le _ _ (bytes-fit _ _ _ _ (c .before .width .ensures .0) (c .before .before .places .ensures .2)))
+slice-aggregate-fill-bytes c =
+    sym (length-take-le _ _ (bytes-fit _ _ _ _ (c .before .width .ensures .0) (c .before .before .places .ensures .2)))
 
 returns : tie.Need-returns
 returns c =
@@ -28,4 +29,6 @@ returns c =
     part-made (w .before .places .ensures .0) (w .width .ensures .0) refl (f .fill-bytes .ensures) (c .wrapping-add-u64 .ensures)
 
 pub fill-part-spec : {M : Type 1} → statement M
-fill-part-spec = tie.close (tie.spec (λ c κs. search needs) (λ c κs. search needs) mul-bytes slice-relend-prefix-fill-bytes slice-aggregate-fill-bytes (λ c κs. search needs) (λ c. search needs) (λ c κs. search needs) (λ c. search needs) returns)
+fill-part-spec =
+    tie.close (tie.spec (λ c κs. search needs) (λ c κs. search needs) mul-bytes slice-relend-prefix-fill-bytes
+    slice-aggregate-fill-bytes (λ c κs. search needs) (λ c. search needs) (λ c κs. search needs) (λ c. search needs) returns)

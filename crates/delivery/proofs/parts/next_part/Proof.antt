@@ -35,4 +35,6 @@ returns-2 c =
 
 pub next-part-spec : {M : Type 1} → statement M
 next-part-spec =
-    tie.close (tie.spec (λ c κs. search needs) (λ c. search needs) returns (λ c κs. search needs) (λ c. search needs) slice-aggregate-fill-part (λ c κs. search needs) slice-reshare-prefix-put-lines slice-aggregate-put-lines (λ c κs. search needs) (λ c. search needs) (λ c. search needs) returns-2)
+    tie.close (tie.spec (λ c κs. search needs) (λ c. search needs) returns (λ c κs. search needs) (λ c. search needs)
+    slice-aggregate-fill-part (λ c κs. search needs) slice-reshare-prefix-put-lines slice-aggregate-put-lines (λ c κs. search needs)
+    (λ c. search needs) (λ c. search needs) returns-2)

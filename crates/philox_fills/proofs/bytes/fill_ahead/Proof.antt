@@ -39,4 +39,8 @@ loop-again c =
     (drawn-long D ∙ v .0, same-place F (ap (λ (x : ℕ). l .loop .at + x) (a .bytes)) refl)
 
 pub fill-ahead-spec : {M : Type 1} → statement M
-fill-ahead-spec = tie.close (tie.spec Inv-loop μ-loop (λ c. (refl, start eight-words (row-sound _))) (λ c κs. search needs) (λ c κs. search needs) (λ c κs. search needs) (λ c. search needs) (λ c. search needs) (λ c. search needs) (λ c. omega (arith, c .before .before .before .before .before .before .before .before .before .draws-ahead .ensures .3 (search needs))) loop-again (λ c. search needs) (λ c. finish (c .before .loop .inv .1) (search needs)))
+fill-ahead-spec =
+    tie.close (tie.spec Inv-loop μ-loop (λ c. (refl, start eight-words (row-sound _))) (λ c κs. search needs) (λ c κs. search needs)
+    (λ c κs. search needs) (λ c. search needs) (λ c. search needs) (λ c. search needs)
+    (λ c. omega (arith, c .before .before .before .before .before .before .before .before .before .draws-ahead .ensures .3 (search needs)))
+    loop-again (λ c. search needs) (λ c. finish (c .before .loop .inv .1) (search needs)))

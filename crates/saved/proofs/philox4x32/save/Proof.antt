@@ -17,4 +17,7 @@ returns-2 c =
     save-done long (words-stored _ _ long (p1 .before .pair .result) (p1 .before .pair .ensures .1) (p4 .before .mark-of .ensures) (w .waiting-of .ensures) (p1 .put-word .ensures) (p2 .put-word2 .ensures) (p3 .put-word3 .ensures) (p4 .put-word4 .ensures) (p5 .put-words .ensures))
 
 pub save-spec : {M : Type 1} → statement M
-save-spec = tie.close (tie.spec (λ c. save-refused (c .if1 .taken)) (λ c κs. search needs) (λ c. search needs) (λ c. search needs) (λ c κs. search needs) (λ c κs. search needs) (λ c κs. search needs) (λ c κs. search needs) (λ c κs. search needs) (λ c κs. search needs) (λ c κs. search needs) (λ c. search needs) returns-2)
+save-spec =
+    tie.close (tie.spec (λ c. save-refused (c .if1 .taken)) (λ c κs. search needs) (λ c. search needs) (λ c. search needs)
+    (λ c κs. search needs) (λ c κs. search needs) (λ c κs. search needs) (λ c κs. search needs) (λ c κs. search needs)
+    (λ c κs. search needs) (λ c κs. search needs) (λ c. search needs) returns-2)

@@ -31,4 +31,7 @@ loop-again c =
     (drawn-long D ∙ l .0, more-buffered (q .groups-of .result) (l .1) D (omega (arith, l .0)) (omega arith) (search needs) stores)
 
 pub fill-normal-f32-ahead-spec : {M : Type 1} → statement M
-fill-normal-f32-ahead-spec = tie.close (tie.spec Inv-loop μ-loop (λ c. (refl, start eight-words normal-f32s-sound)) (λ c κs. search needs) (λ c κs. search needs) (λ c κs. search needs) (λ c. search needs) (λ c. search needs) (λ c. search needs) (λ c. search needs) loop-again (λ c. search needs) (λ c. finish (c .before .loop .inv .1) (search needs)))
+fill-normal-f32-ahead-spec =
+    tie.close (tie.spec Inv-loop μ-loop (λ c. (refl, start eight-words normal-f32s-sound)) (λ c κs. search needs) (λ c κs. search needs)
+    (λ c κs. search needs) (λ c. search needs) (λ c. search needs) (λ c. search needs) (λ c. search needs) loop-again
+    (λ c. search needs) (λ c. finish (c .before .loop .inv .1) (search needs)))
