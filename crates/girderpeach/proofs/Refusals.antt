@@ -6,7 +6,7 @@ use Prim.Native.Nat.{ℕ, zero, suc, _<_}
 use native.Mathlib.Decide.{ℕ-discrete}
 use native.Mathlib.Omega.{arith}
 use lib.IntN.{ℤ, pos, negsuc}
-use Rattle.girderpeach.specs.Claims.{Refusal, refusal, Answers}
+use Rattle.girderpeach.specs.Claims.{Refusal, refusal, minus, Answers}
 use Rattle.girderpeach.specs.Host.{answerOf, firstOf}
 
 -- ---- decisions
@@ -86,10 +86,12 @@ unfolding number-of
 number-is zero v = refl
 number-is (suc r) v = refl
 
-same-number : (r n v : ℕ) → answerOf r v ≡ answerOf n 0 → r ≡ n
-same-number r n v e = sym (number-is r v) ∙ ap number-of e ∙ number-is n 0
+same-number : (r n v : ℕ) → 0 < n → answerOf r v ≡ minus n → r ≡ n
+unfolding number-of
+same-number r zero v h e = absurd (omega arith)
+same-number r (suc n) v h e = sym (number-is r v) ∙ ap number-of e
 
-refused : (r v : ℕ) → 0 < r → answerOf r v ≡ answerOf r 0
+refused : (r v : ℕ) → 0 < r → answerOf r v ≡ minus r
 refused zero v h = absurd (omega arith)
 refused (suc r) v h = refl
 
@@ -100,9 +102,9 @@ answers m v [] d up e = e
 answers m v (refusal n C ∷ rest) (yes c, d) up e = ((λ q. c, λ q. e ∙ refused n v (omega (arith, up .0))), λ h. absurd (h c))
 answers m v (refusal n C ∷ rest) (no h, d) up e = ((λ q. absurd (other (sym e ∙ q)), λ c. absurd (h c)), λ q. answers n v rest d (up .1) e)
   where
-    other : answerOf (lowest rest d) v ≡ answerOf n 0 → ⊥
+    other : answerOf (lowest rest d) v ≡ minus n → ⊥
     other q =
-        let s = same-number (lowest rest d) n v q in
+        let s = same-number (lowest rest d) n v (omega (arith, up .0)) q in
         let a = above n rest d (up .1) (λ z. omega (arith, s, z, up .0)) in
         omega (arith, a, s)
 

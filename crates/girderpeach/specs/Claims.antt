@@ -5,7 +5,7 @@ use mathlib.Core.List.{List, [], _∷_}
 use mathlib.Core.Logic.{_↔_}
 use mathlib.Core.Path.{_≡_}
 use Prim.Native.Nat.{ℕ, _%_, _<_, _≤_}
-use lib.IntN.{ℤ, pos}
+use lib.IntN.{ℤ, pos, negℤ}
 use lib.ListN.{length, getD}
 use Rattle.fills.specs.FillBytes.{bytesDraws}
 use Rattle.fills.specs.Kinds.{kindAt}
@@ -17,7 +17,6 @@ use Rattle.saved.specs.xoshiro256pp.Form as xoshiro-form
 use Rattle.saved.specs.xoshiro256pp.Form.{laneIn}
 use Rattle.xoshiro.specs.scalar.Calls.{stateOf}
 use Rattle.xoshiro.specs.scalar.Xoshiro256pp.{allZero}
-use Rattle.girderpeach.specs.Host.{answerOf}
 use Rattle.girderpeach.specs.Philox as philox
 use Rattle.girderpeach.specs.Xoshiro as xoshiro
 
@@ -25,9 +24,9 @@ use Rattle.girderpeach.specs.Xoshiro as xoshiro
 pub data Refusal : Type 1 where
   refusal : (number : ℕ) (applies : Type 0) → Refusal
 
--- minus n, for a number n above 0
+-- minus n
 abbrev pub minus : ℕ → ℤ
-minus n = answerOf n 0
+minus n = negℤ (pos n)
 
 -- The answer is minus the number of the first refusal that applies, and exactly then; and it is the value, 0 or more, where none does.
 abbrev pub Answers : ℤ → ℕ → List Refusal → Type 0
