@@ -6,6 +6,7 @@ use delivery::parts::Delivery;
 use libc::STDERR_FILENO;
 use libc::STDOUT_FILENO;
 use order::Order;
+ghost use mathlib.Core.Bool.{true};
 ghost use mathlib.Core.Path.{_≡_};
 ghost use Prim.Native.Nat.{_≤_};
 ghost use lib.ListN.{length};
@@ -24,22 +25,34 @@ fn told(ok: bool) -> bool
     ok
 }
 
-// Part after part of a delivery to standard output, until nothing is left or a write fails. Hands back what is left: where a write
-// failed, also the part that it was to write.
-fn write_parts(d: Delivery, values: &mut [u8], out: &mut [u8]) -> Delivery
+// What is left of a delivery, and whether all of it was written: no write failed, and so nothing is left.
+struct Written {
+    whole: bool,
+    rest: Delivery,
+}
+
+// Part after part of a delivery to standard output, until nothing is left or a write fails. Where a write failed, what is left has also
+// the part that it was to write.
+fn write_parts(d: Delivery, values: &mut [u8], out: &mut [u8]) -> Written
     requires { ⌜ (1 ≤ d .kind) × (d .kind ≤ length kinds) × (128 ≤ length (now values)) × (400 ≤ length (now out)) ⌝ }
-    ensures { λ r. ⌜ Reached d r ⌝ }
+    ensures { λ r. ⌜ Reached d (r .rest) × (r .whole ≡ true → r .rest .left ≡ 0) ⌝ }
 {
     let mut rest = d;
     while rest.left > 0 {
         let part = parts::next_part(rest, values, out);
         let n = part.bytes;
         if !told(io::write_all(STDOUT_FILENO, &out[..n])) {
-            return rest;
+            return Written {
+                whole: false,
+                rest: rest,
+            };
         }
         rest = part.rest;
     }
-    rest
+    Written {
+        whole: true,
+        rest: rest,
+    }
 }
 
 // 10,240 bytes: at most 2,560 values, whose lines have 64,000 bytes at most, which `io::large_buffer` holds.
@@ -49,10 +62,10 @@ fn small_buffer() -> [u8; 10240]
     [0; 10240]
 }
 
-// An order's values to standard output. Hands back what is left of them.
-fn deliver(o: Order) -> Delivery
+// An order's values to standard output. Hands back what is left of them, and whether all were written.
+fn deliver(o: Order) -> Written
     requires { ⌜ Accepted o ⌝ }
-    ensures { λ r. ⌜ Reached (begun o) r ⌝ }
+    ensures { λ r. ⌜ Reached (begun o) (r .rest) × (r .whole ≡ true → r .rest .left ≡ 0) ⌝ }
 {
     let mut values = small_buffer();
     let mut out = io::large_buffer();
@@ -147,5 +160,8 @@ fn main() {
     if o.refusal != 0 {
         return refuse(o.refusal);
     }
-    close(deliver(o));
+    let written = deliver(o);
+    if written.whole {
+        close(written.rest);
+    }
 }

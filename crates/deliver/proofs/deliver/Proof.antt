@@ -20,7 +20,8 @@ write-parts-requires c κs =
 returns : tie.Need-returns
 returns c =
     let w = c .before .before in
-    subst (λ (d : Delivery). Reached d (w .write-parts .result)) (w .before .before .before .begin .ensures) (w .write-parts .ensures)
+    let e = w .write-parts .ensures in
+    (subst (λ (d : Delivery). Reached d (w .write-parts .result .rest)) (w .before .before .before .begin .ensures) (e .0), e .1)
 
 pub deliver-spec : {M : Type 1} → statement M
 deliver-spec =

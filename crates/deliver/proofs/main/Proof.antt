@@ -17,4 +17,5 @@ main-spec =
     tie.close (tie.spec (λ c κs. search needs) (λ c κs. search needs) (λ c κs. search needs) (λ c κs. search needs)
     (λ c κs. search needs) (λ c κs. search needs) (λ c κs. search needs) (λ c κs. search needs) (λ c. search needs) (λ c. search needs)
     (λ c. search needs) (λ c. search needs) (λ c. search needs) (λ c. search needs) (λ c. search needs) (λ c κs. search needs)
-    (λ c κs. search needs) (λ c. search needs) deliver-requires (λ c κs. search needs) (λ c. search needs))
+    (λ c κs. search needs) (λ c. search needs) deliver-requires (λ c κs. search needs) (λ c. search needs)
+    (λ c. search needs))
