@@ -1,2 +1,3 @@
--- What many draws at once hand out.
+-- What many draws at once hand out, and what fills leave, row by row.
 pub mod Draws
+pub mod Rows

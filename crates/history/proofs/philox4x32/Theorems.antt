@@ -4,25 +4,23 @@ use mathlib.Core.List.{List, _∷_}
 use mathlib.Core.Path.{_≡_, refl, sym, ap, ap₂, _∙_}
 use Prim.Native.Nat.{ℕ, zero, suc, _+_}
 use native.Mathlib.Omega.{arith}
-use lib.Ieee.{binary32, binary64, toBits}
 use lib.ListN.{length}
 use Rattle.base.specs.Iterate.{iterate}
 use Rattle.base.proofs.Lists.{along}
 use Rattle.base.proofs.Table.{length-table}
-use Rattle.fills.specs.Claims.{Eights, u64At, u32At, f32At, f64At, normalF32At, normalF64At, Places, BytePlaces}
-use Rattle.fills.specs.Fill.{Kind, drawsFor}
+use Rattle.fills.specs.Claims.{Eights}
+use Rattle.fills.specs.Fill.{drawsFor}
 use Rattle.fills.proofs.Handed.{right-fill, right-bytes, draws-made, draws-reported}
-use Rattle.fills.proofs.Theorems.{places-of-rows, bytes-of-rows}
 use Rattle.philox.specs.x8.Machine.{lowerAt, upperAt, wordsOf, nextOf, drawn, grouped, sought}
 use Rattle.philox.specs.declared.x8.Blocks.{Blocks}
 use Rattle.philox.specs.declared.x8.Draw.{Draw}
 use Rattle.philox.specs.declared.x8.Philox4x32X8.{Philox4x32X8}
 use Rattle.history.specs.philox4x32.Calls.{Call, draw, group, seek, fill, bytes, many, Step, rngOf, rngAfter, Run}
 use Rattle.history.specs.philox4x32.History.{Tally, waitsOf, start, oneDraw, tallyAfter, tally, reportedAfter}
-use Rattle.history.specs.philox4x32.History.{reported, wordsAt, Right, AllRight, DrawsAddUp, DrawsCount}
-use Rattle.history.specs.philox4x32.Rows.{PlacesInLists, BytesInLists, RowsInLists}
+use Rattle.history.specs.philox4x32.History.{reported, wordsAt, Right, AllRight, DrawsAddUp, DrawsCount, RowsInLists}
 use Rattle.history.specs.philox4x32.Shipped.{PhiloxShips}
 use Rattle.history.proofs.Draws.{right-draws}
+use Rattle.history.proofs.Rows.{rows}
 use Rattle.history.proofs.philox4x32.Tallied.{tallied, tallied-start, tallied-words, tallied-draw}
 use Rattle.history.proofs.philox4x32.Tallied.{tallied-draws, tallied-group, tallied-seek}
 
@@ -145,28 +143,4 @@ eight s₀ t m = one-of (waitsOf (iterate oneDraw m t)) _ _ (length-table 8 _) (
     one-of false upper lower u l = l
 
 pub rows-in-lists : RowsInLists
-rows-in-lists =
-    record {
-      eight = eight;
-      u64 = places (places-of-rows .u64);
-      u32 = places (places-of-rows .u32);
-      f32 = places (places-of-rows .f32);
-      f64 = places (places-of-rows .f64);
-      normalF32 = places (places-of-rows .normalF32);
-      normalF64 = places (places-of-rows .normalF64);
-      bytes1 = bytes-places u64At (λ x. x) (bytes-of-rows .bytes1);
-      bytes2 = bytes-places u32At (λ x. x) (bytes-of-rows .bytes2);
-      bytes3 = bytes-places f32At (toBits binary32) (bytes-of-rows .bytes3);
-      bytes4 = bytes-places f64At (toBits binary64) (bytes-of-rows .bytes4);
-      bytes5 = bytes-places normalF32At (toBits binary32) (bytes-of-rows .bytes5);
-      bytes6 = bytes-places normalF64At (toBits binary64) (bytes-of-rows .bytes6);
-    }
-  where
-    places : {A : Type 0} {says : (ℕ → List ℕ) → ℕ → A} {K : Kind A} → Places says K → PlacesInLists says K
-    places p s₀ t before after draws h k b = p _ (eight s₀ t) (length before) after (h .writes) k b
-
-    bytes-places :
-        {A : Type 0} (says : (ℕ → List ℕ) → ℕ → A) (bits : A → ℕ) {number width : ℕ}
-        → BytePlaces says bits number width → BytesInLists says bits number width
-    bytes-places says bits p s₀ t before after s refusal draws s′ h e k i b c =
-        p _ (eight s₀ t) (length before) after (h .writes e) k i b c
+rows-in-lists s₀ t = rows (eight s₀ t)

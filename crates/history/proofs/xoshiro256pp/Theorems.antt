@@ -4,15 +4,11 @@ use mathlib.Core.Path.{_≡_, refl, sym, ap, _∙_}
 use Prim.Native.Nat.{ℕ, _+_}
 use native.Mathlib.Nat.{add-zero}
 use native.Mathlib.Omega.{arith}
-use lib.Ieee.{binary32, binary64, toBits}
-use lib.ListN.{length}
 use Rattle.base.specs.Iterate.{iterate}
 use Rattle.base.proofs.Lists.{along}
 use Rattle.base.proofs.Table.{length-table}
-use Rattle.fills.specs.Claims.{Eights, u64At, u32At, f32At, f64At, normalF32At, normalF64At, Places, BytePlaces}
-use Rattle.fills.specs.Fill.{Kind}
+use Rattle.fills.specs.Claims.{Eights}
 use Rattle.fills.proofs.Handed.{right-fill, right-bytes, draws-made, draws-reported}
-use Rattle.fills.proofs.Theorems.{places-of-rows, bytes-of-rows}
 use Rattle.xoshiro.specs.scalar.Xoshiro256pp.{State, seeded}
 use Rattle.xoshiro.specs.x8.Calls.{drawn, blockJumps, placed, movedBlocks}
 use Rattle.xoshiro.specs.declared.x8.Placed.{Placed}
@@ -20,10 +16,10 @@ use Rattle.xoshiro.specs.declared.x8.Xoshiro256ppX8.{Xoshiro256ppX8}
 use Rattle.xoshiro.proofs.x8.Theorems.{lanes-start}
 use Rattle.history.specs.xoshiro256pp.Calls.{Call, draw, fill, bytes, move, many, Step, rngOf, rngAfter}
 use Rattle.history.specs.xoshiro256pp.History.{drawsReported, jumpsReported, drawsCounted, jumpsCounted, D}
-use Rattle.history.specs.xoshiro256pp.History.{J, wordsAt, Right, History, DrawsAddUp}
-use Rattle.history.specs.xoshiro256pp.Rows.{PlacesInLists, BytesInLists, RowsInLists}
+use Rattle.history.specs.xoshiro256pp.History.{J, wordsAt, Right, History, DrawsAddUp, RowsInLists}
 use Rattle.history.specs.xoshiro256pp.Shipped.{XoshiroShips}
 use Rattle.history.proofs.Draws.{right-draws}
+use Rattle.history.proofs.Rows.{rows}
 use Rattle.history.proofs.xoshiro256pp.Lanes.{At, at-same, at-draws, at-move, words-at}
 
 -- one call: it reports what is counted, what it handed out is right, and the lanes stand where they should
@@ -117,28 +113,4 @@ unfolding wordsAt
 eight s d j m = length-table 8 _
 
 pub rows-in-lists : RowsInLists
-rows-in-lists =
-    record {
-      eight = eight;
-      u64 = places (places-of-rows .u64);
-      u32 = places (places-of-rows .u32);
-      f32 = places (places-of-rows .f32);
-      f64 = places (places-of-rows .f64);
-      normalF32 = places (places-of-rows .normalF32);
-      normalF64 = places (places-of-rows .normalF64);
-      bytes1 = bytes-places u64At (λ x. x) (bytes-of-rows .bytes1);
-      bytes2 = bytes-places u32At (λ x. x) (bytes-of-rows .bytes2);
-      bytes3 = bytes-places f32At (toBits binary32) (bytes-of-rows .bytes3);
-      bytes4 = bytes-places f64At (toBits binary64) (bytes-of-rows .bytes4);
-      bytes5 = bytes-places normalF32At (toBits binary32) (bytes-of-rows .bytes5);
-      bytes6 = bytes-places normalF64At (toBits binary64) (bytes-of-rows .bytes6);
-    }
-  where
-    places : {A : Type 0} {says : (ℕ → List ℕ) → ℕ → A} {K : Kind A} → Places says K → PlacesInLists says K
-    places p s d j before after draws h k b = p _ (eight s d j) (length before) after (h .writes) k b
-
-    bytes-places :
-        {A : Type 0} (says : (ℕ → List ℕ) → ℕ → A) (bits : A → ℕ) {number width : ℕ}
-        → BytePlaces says bits number width → BytesInLists says bits number width
-    bytes-places says bits p s d j before after g refusal draws g′ h e k i b c =
-        p _ (eight s d j) (length before) after (h .writes e) k i b c
+rows-in-lists s d j = rows (eight s d j)

@@ -16,6 +16,7 @@ use Rattle.philox.specs.x8.Machine.{groupAt, lowerAt, upperAt, none8, fresh}
 use Rattle.philox.specs.declared.x8.Blocks.{Blocks}
 use Rattle.philox.specs.declared.x8.Philox4x32X8.{Philox4x32X8}
 use Rattle.history.specs.Draws.{RightDraws}
+use Rattle.history.specs.Rows.{Rows}
 use Rattle.history.specs.philox4x32.Calls.{Call, draw, group, seek, fill, bytes, many, rngAfter, Run}
 
 -- ---- what is counted along a list
@@ -113,3 +114,7 @@ DrawsAddUp = (seed stream : ℕ) (s₀ : Philox4x32X8) (calls : List Call) → s
 -- a run of draws adds to d alone
 abbrev pub DrawsCount : Type 0
 DrawsCount = (n : ℕ) (t : Tally) → (iterate oneDraw n t .d ≡ t .d + n) × (iterate oneDraw n t .a ≡ t .a) × (iterate oneDraw n t .g ≡ t .g)
+
+-- ---- of the fills made where the tally is t, place by place and byte by byte: what the table says of the words from there on
+abbrev pub RowsInLists : Type 0
+RowsInLists = (s₀ : Philox4x32X8) (t : Tally) → Rows Philox4x32X8 (λ m. wordsAt s₀ (iterate oneDraw m t))

@@ -15,6 +15,7 @@ use Rattle.xoshiro.specs.x8.Calls.{blockJumps, placed}
 use Rattle.xoshiro.specs.declared.x8.Placed.{Placed}
 use Rattle.xoshiro.specs.declared.x8.Xoshiro256ppX8.{Xoshiro256ppX8}
 use Rattle.history.specs.Draws.{RightDraws}
+use Rattle.history.specs.Rows.{Rows}
 use Rattle.history.specs.xoshiro256pp.Calls.{Call, draw, fill, bytes, move, many, rngAfter, Run}
 
 -- ---- what the calls reported: an accepted fill, or many draws at once, the draws that were returned, a single draw 1, a block move the
@@ -84,3 +85,7 @@ pub record History (seed b : ℕ) (p : Placed) (calls : List Call) : Type 0 wher
 
 abbrev pub DrawsAddUp : Type 1
 DrawsAddUp = (seed b : ℕ) (p : Placed) (calls : List Call) → p ≡ placed seed b → Run (p .rng) calls → History seed b p calls
+
+-- ---- of the fills made where D is d and J is j, place by place and byte by byte: what the table says of the words from there on
+abbrev pub RowsInLists : Type 0
+RowsInLists = (s : State) (d j : ℕ) → Rows Xoshiro256ppX8 (λ m. wordsAt s (d + m) j)
