@@ -1,5 +1,5 @@
--- What the fills of a list of calls left in their slices, place by place and byte by byte, as the scope document's table says it of the words of
--- their draws, W 0 first, whatever the engine.
+-- What the fills of a list of calls left in their slices, place by place and byte by byte, as the scope document's table says it of the
+-- words of their draws, W 0 first, whatever the engine.
 use mathlib.Core.List.{List}
 use mathlib.Core.Path.{_≡_}
 use Prim.Native.Nat.{ℕ, _+_, _*_, _/_, _%_, _^_, _<_}
