@@ -121,7 +121,8 @@ module _ {G : Type 0} (E : Engine G) (g : G) (k n : ℕ) where
       let W : ℕ → List ℕ = wordsFrom E g in
       let W′ : ℕ → List ℕ = λ i. wordsFrom E (iterate (E .next) (bytesDraws k (n * widthOf k)) g) i in
       let same : (j : ℕ) → W (K .draws * t + j) ≡ W′ j =
-      λ j. ap (E .words) (iterate-then (E .next) (K .draws * t) j g ∙ ap (λ (x : ℕ). iterate (E .next) j (iterate (E .next) x g)) (sym b)) in
+      λ j. ap (E .words)
+      (iterate-then (E .next) (K .draws * t) j g ∙ ap (λ (x : ℕ). iterate (E .next) j (iterate (E .next) x g)) (sym b)) in
       let e′ = sym e in
       let first = sym (written k W n) in
       let second = sym (written k W′ m) in

@@ -206,7 +206,8 @@ module _ (d : Delivery) (values out : List ℕ) {rest : Delivery} {mid : List �
       omega (arith, c, le-of-mul-le-mul-right h (row k′ .wide))
 
   pub text-part : {out′ : List ℕ} {r : ℕ} → d .raw ≡ false
-      → Put (given (accepted k′ (length (take bytes (mid ++ drop room values))) (length out)) (linesOf k′ (take bytes (mid ++ drop room values))))
+      → Put
+      (given (accepted k′ (length (take bytes (mid ++ drop room values))) (length out)) (linesOf k′ (take bytes (mid ++ drop room values))))
       0 out out′ r
       → Counts r out′
       → NextPart d values (mid ++ drop room values) out out′ r rest

@@ -43,7 +43,8 @@ roundMasked k0 k1 c =
 pub round-masked : (k0 k1 : ℕ) (c : Quad) → listOf (roundMasked k0 k1 c) ≡ listOf (round k0 k1 c)
 unfolding round
 round-masked k0 k1 c =
-    λ i. listOf (record { w0 = round k0 k1 c .w0; w1 = and-mask (m1 * c .w2) 32 i; w2 = round k0 k1 c .w2; w3 = and-mask (m0 * c .w0) 32 i })
+    λ i. listOf
+    (record { w0 = round k0 k1 c .w0; w1 = and-mask (m1 * c .w2) 32 i; w2 = round k0 k1 c .w2; w3 = and-mask (m0 * c .w0) 32 i })
 
 abbrev counterMasked : ℕ → ℕ → Quad
 counterMasked s n = record { w0 = bitAnd n 0xffff_ffff; w1 = n / 2 ^ 32; w2 = bitAnd s 0xffff_ffff; w3 = s / 2 ^ 32 }

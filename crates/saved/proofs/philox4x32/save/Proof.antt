@@ -14,7 +14,10 @@ returns-2 c =
     let p1 = p2 .before .before .before .before in
     let w = p1 .before .before .before in
     let long = w .before .before .if1 .left in
-    save-done long (words-stored _ _ long (p1 .before .pair .result) (p1 .before .pair .ensures .1) (p4 .before .mark-of .ensures) (w .waiting-of .ensures) (p1 .put-word .ensures) (p2 .put-word2 .ensures) (p3 .put-word3 .ensures) (p4 .put-word4 .ensures) (p5 .put-words .ensures))
+    save-done long
+    (words-stored _ _ long (p1 .before .pair .result) (p1 .before .pair .ensures .1) (p4 .before .mark-of .ensures)
+    (w .waiting-of .ensures) (p1 .put-word .ensures) (p2 .put-word2 .ensures) (p3 .put-word3 .ensures) (p4 .put-word4 .ensures)
+    (p5 .put-words .ensures))
 
 pub save-spec : {M : Type 1} → statement M
 save-spec =

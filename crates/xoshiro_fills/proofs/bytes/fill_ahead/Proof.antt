@@ -35,7 +35,8 @@ loop-again c =
     let v = l .loop .inv in
     let D = f .fill-buffer .ensures in
     let all = few ∙ d .draws-ahead .ensures .0 in
-    let F = more-buffered (groupsAhead K n) (v .1) D (omega (arith, v .0)) all (omega (arith, a .room, v .1 .same)) (m .map-bytes .ensures) in
+    let F = more-buffered (groupsAhead K n) (v .1) D (omega (arith, v .0)) all (omega (arith, a .room, v .1 .same))
+    (m .map-bytes .ensures) in
     (drawn-long D ∙ v .0, same-place F (ap (λ (x : ℕ). l .loop .at + x) (a .bytes)) refl)
 
 pub fill-ahead-spec : {M : Type 1} → statement M
