@@ -69,8 +69,9 @@ int64_t gp_philox_new(uint64_t seed, uint64_t stream, uint8_t *form, size_t form
 /* Makes `block` the next one, with no words waiting, and answers 0. Refuses with 1, 2. */
 int64_t gp_philox_seek(uint8_t *form, size_t form_len, uint64_t block);
 
-/* Answers the draws left before the block counter passes 2^64: 2 floor((2^64 - counter) / 8). Waiting words are not counted.
- * Refuses with 1, 2. */
+/* Answers the draws left before the block counter passes 2^64: 2 floor((2^64 - counter) / 8), and 1 more if words wait; at most 2^62 + 1.
+ * Count the draws of the fills that follow, up to the next seek, against one answer, and do not wait for 0, which may never come: where
+ * the counter comes to 2^64 or passes it, it goes on modulo 2^64, and the answer is near 2^62 again. Refuses with 1, 2. */
 int64_t gp_philox_draws_left(const uint8_t *form, size_t form_len);
 
 #ifdef __cplusplus

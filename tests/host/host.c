@@ -244,8 +244,9 @@ static void try_draws_left(const uint8_t *form, size_t form_len) {
     struct lent f = lend(form, form_len);
     int64_t expected = -fault;
     if (!fault) {
-        uint64_t counter = c.a = word_at(form + 16);
+        uint64_t counter = c.a = word_at(form + 16), waiting = c.b = word_at(form + 24);
         expected = counter == 0 ? (int64_t)1 << 62 : (int64_t)(-counter / 8 * 2); /* -counter is 2^64 - counter */
+        if (waiting) expected++;
     }
     expect(&c, "answer", (uint64_t)gp_philox_draws_left(f.at, form_len), (uint64_t)expected);
     expect_kept(&c, "form", &f, 1);

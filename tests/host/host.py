@@ -132,6 +132,23 @@ class Philox:
         self.counter = (self.counter + 8) & M64
         return low
 
+    def blocks(self):
+        """A group call, whose words are not looked at: what waits goes on waiting."""
+        self.counter = (self.counter + 8) & M64
+
+    def seek(self, block):
+        self.counter, self.mark, self.waiting = block, 0, [0] * 8
+
+    def draws_left(self):
+        """By the rule, and near the end also by counting the draws, one after another, until the next group would pass block 2^64."""
+        left = 2 * ((2**64 - self.counter) // 8) + (1 if self.mark else 0)
+        if self.counter > 2**64 - 3000:
+            counted, counter, waits = 0, self.counter, self.mark == 1
+            while waits or counter + 8 <= 2**64:
+                counted, counter, waits = counted + 1, counter if waits else counter + 8, not waits
+            expect(f"model: draws left at {self.counter}, mark {self.mark}", left, counted)
+        return left
+
     @staticmethod
     def fault(form):
         if len(form) != 96:
@@ -283,6 +300,15 @@ def try_fill(host, engine, form, kind, length):
     return after
 
 
+def try_draws_left(host, form):
+    answer = -Philox.fault(form) or Philox(form).draws_left()
+    expect(f"draws_left, form {form.hex()}", host.draws_left(form), (answer, UNTOUCHED, form))
+
+
+def some_block():
+    return chance.choice((0, 8 * chance.randrange(1000), chance.getrandbits(64), M64 - chance.randrange(20), 2**32 - chance.randrange(20)))
+
+
 def try_own(host, engine, form):
     """One call that this engine alone has."""
     fault = engine.fault(form)
@@ -296,10 +322,8 @@ def try_own(host, engine, form):
         found = host.jump_blocks(form, n)
         expect(f"jump_blocks({n}), form {form.hex()}", found, expected)
         return found[2]
-    block = chance.choice((0, 8 * chance.randrange(1000), chance.getrandbits(64), M64 - chance.randrange(20), 2**32 - chance.randrange(20)))
-    counter = int.from_bytes(form[16:24], "little")
-    left = 2 * ((2**64 - counter) // 8)
-    expect(f"draws_left, form {form.hex()}", host.draws_left(form), (-fault or left, UNTOUCHED, form))
+    try_draws_left(host, form)
+    block = some_block()
     after = form if fault else form[:16] + struct.pack("<Q", block) + bytes(72)
     expect(f"seek({block}), form {form.hex()}", host.seek(form, block), (-fault, UNTOUCHED, after))
     return after
@@ -354,6 +378,25 @@ def lists(host, engine, count):
                 form = try_fill(host, engine, form, chance.choice(NO_KIND), length)
             else:
                 form = try_own(host, engine, form)
+
+
+def draws_left(host):
+    """After draws, group calls and seeks, which the model makes, at the counter's end and elsewhere. First where most are left."""
+    most = Philox(good_form(Philox))
+    most.seek(2**64 - 8)
+    most.draw()
+    expect("draws_left, where the counter came to 2^64", host.draws_left(most.form()), (2**62 + 1, UNTOUCHED, most.form()))
+    for _ in range(60):
+        model = Philox(good_form(Philox))
+        for _ in range(20):
+            choice = chance.randrange(8)
+            if choice < 4:
+                model.draw()
+            elif choice < 6:
+                model.blocks()
+            else:
+                model.seek(some_block())
+            try_draws_left(host, model.form())
 
 
 def damaged(engine):
@@ -424,6 +467,7 @@ def main(library, expected):
     for engine in Xoshiro, Philox:
         lists(host, engine, 60)
         refusals(host, engine)
+    draws_left(host)
     replayed(host, expected)
     print(f"  host.py: {checks} checks, {failures} failures")
     return failures != 0

@@ -41,7 +41,8 @@ fn lanes(seed: u64, block: u64, n: u64) {
     }
 }
 
-/// The Rust has no `draws_left` and shows no counter: the counter is kept beside it, as the scope document's machine has it.
+/// The Rust has no `draws_left` and shows no counter: the counter, and whether words wait, are kept beside it, as the scope document's
+/// machine has them, and the draws left are these by the customers' rule.
 fn machine(seed: u64, stream: u64, calls: u32) {
     let mut rng = Philox4x32X8::new(seed, stream);
     let mut order = SplitMix64::new(seed);
@@ -71,7 +72,7 @@ fn machine(seed: u64, stream: u64, calls: u32) {
                 waiting = !waiting;
             }
         }
-        println!("{}", 2 * (((1u128 << 64) - u128::from(counter)) / 8));
+        println!("{}", 2 * (((1u128 << 64) - u128::from(counter)) / 8) + u128::from(waiting));
     }
 }
 

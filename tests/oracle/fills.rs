@@ -1,8 +1,10 @@
 //! Our engines and their fills, linked as static libraries, against the Rust's: the same calls on both sides, and after each of them the
 //! same bits in the lent buffer and around it, the same words handed out, and the same generator. The Rust counts neither draws nor jumps
-//! and refuses nothing: those numbers are the scope document's. The argument is how many lists of mixed calls each engine gets.
+//! nor draws left, and refuses nothing: those numbers are the customers'. The argument is how many lists of mixed calls each engine gets.
 mod common;
+mod forms;
 use common::{Count, Random};
+use forms::draws_left;
 use tpt_simd_rng::{Philox4x32X8, Rng8, Xoshiro256ppX8};
 
 /// A row of the table of kinds: an element has `width` bytes, and a group of `places` elements takes `draws` draws.
@@ -90,6 +92,10 @@ trait Engine: Sized {
     const NAME: &'static str;
     fn rust(&mut self) -> &mut Self::Rust;
     fn same(&self) -> bool;
+    /// What the generator tells of itself is right.
+    fn tells(&self) -> bool {
+        true
+    }
 
     // Our calls. A fill of n elements answers its draws, a fill of n bytes the refusal's number and its draws.
     fn fill(&mut self, kind: u64, n: usize) -> (Vec<u8>, u64);
@@ -107,6 +113,9 @@ trait Engine: Sized {
         }
         if !self.same() {
             count.differ(format!("{} {}: not the Rust's generator afterwards", Self::NAME, what()));
+        }
+        if !self.tells() {
+            count.differ(format!("{} {}: not the draws left afterwards", Self::NAME, what()));
         }
     }
 
@@ -248,7 +257,7 @@ impl Engine for Xoshiro {
 
 // ---- Philox
 
-/// Every call is lent the generator's fields first.
+/// Every call that moves the generator is lent its fields first.
 macro_rules! philox {
     ($($name:ident($($more:ident: $type:ty),*) $(-> $answer:ty)?;)*) => {
         extern "C" {
@@ -257,6 +266,9 @@ macro_rules! philox {
             ) $(-> $answer)?;)*
         }
     };
+}
+extern "C" {
+    fn oracle_philox_draws_left(key: &[u32; 2], stream: &u64, counter: &u64, waiting: &bool, pending: &[u64; 8]) -> u64;
 }
 philox! {
     oracle_philox_new(seed: u64, id: u64);
@@ -323,6 +335,10 @@ impl Engine for Philox {
         let words = waiting.then_some(pending);
         let ours = format!("Philox4x32X8 {{ key: {key:?}, stream: {stream}, counter: {counter}, pending: {words:?} }}");
         (*waiting || *pending == [0; 8]) && ours == format!("{rust:?}")
+    }
+    fn tells(&self) -> bool {
+        let Philox { key, stream, counter, waiting, pending, rust } = self;
+        unsafe { oracle_philox_draws_left(key, stream, counter, waiting, pending) == draws_left(rust) }
     }
 
     fn fill(&mut self, kind: u64, n: usize) -> (Vec<u8>, u64) {

@@ -1,6 +1,6 @@
-//! What the C library should answer, from the Rust: its generators laid out as the scope document's saved forms, and its fills as bytes. The
-//! Rust counts no draws: that number is the scope document's.
-#![allow(dead_code)] // each of the two programs uses a part of it
+//! What the C library and the engines should answer, from the Rust: its generators laid out as the scope document's saved forms, and its
+//! fills as bytes. The Rust counts no draws, made or left: those numbers are the customers'.
+#![allow(dead_code)] // each program uses a part of it
 use tpt_simd_rng::{Philox4x32X8, Rng8, Xoshiro256ppX8};
 
 /// A row of the table of kinds: an element has `width` bytes, and a group of `places` elements takes `draws` draws.
@@ -80,8 +80,9 @@ impl Saved for Philox4x32X8 {
     }
 }
 
-/// 2 x floor((2^64 - counter) / 8)
-pub fn draws_left(rust: &Philox4x32X8) -> i64 {
-    let counter = u128::from(philox_numbers(rust)[3]);
-    (2 * (((1 << 64) - counter) / 8)) as i64
+/// 2 x floor((2^64 - counter) / 8), and 1 more when words wait. The Rust has no such call.
+pub fn draws_left(rust: &Philox4x32X8) -> u64 {
+    let numbers = philox_numbers(rust);
+    let groups = ((1 << 64) - u128::from(numbers[3])) / 8;
+    2 * groups as u64 + u64::from(numbers.len() > 4)
 }

@@ -176,7 +176,7 @@ impl Engine for Philox4x32X8 {
         let mut form = Lent::new(pair.form);
         if random.below(2) == 0 {
             let answer = unsafe { gp_philox_draws_left(form.at(), form.len()) };
-            let left = draws_left(pair.rust);
+            let left = draws_left(pair.rust) as i64;
             return pair.check(|| "draws_left".to_string(), (answer, form), left, count);
         }
         let (small, high) = (random.below(300), random.next() << 32);

@@ -34,7 +34,7 @@ impl Xoshiro {
 struct Philox(Philox4x32X8);
 impl Philox {
     fn line(&self, call: &str, a: u64, b: u64, answer: i64, out: &[u8]) {
-        line(call, a, b, answer, draws_left(&self.0) as u64, out, &self.0.form());
+        line(call, a, b, answer, draws_left(&self.0), out, &self.0.form());
     }
     fn start(seed: u64, stream: u64) -> Self {
         let rust = Philox(Philox4x32X8::new(seed, stream));

@@ -10,6 +10,7 @@ use Rattle.fills.specs.FillBytes.{refusalOf, bytesDraws}
 use Rattle.fills.specs.Kinds.{AnyKind, u64s, of, kinds, kindAt}
 use Rattle.philox.specs.x8.Machine.{leftOf}
 use Rattle.philox.specs.declared.x8.Philox4x32X8.{Philox4x32X8}
+use Rattle.philox.proofs.x8.Theorems.{left-at-most}
 
 abbrev Few : AnyKind → Type 0
 Few K = (n : ℕ) → n < 2 ^ 64 → drawsFor (K .kind) (n / K .kind .width) < 2 ^ 63
@@ -37,5 +38,4 @@ few-kind-refusals k n = go (leb 1 k && leb k (length kinds)) (eqb (n % kindAt k 
     go false b = omega arith
 
 pub few-left : (g : Philox4x32X8) {n : ℕ} → n ≡ leftOf g → n < 2 ^ 63
-unfolding leftOf
-few-left g e = omega arith
+few-left g e = omega (arith, left-at-most g)

@@ -2,27 +2,34 @@
 use mathlib.Core.Bool.{Bool}
 use mathlib.Core.List.{List, [], _∷_}
 use mathlib.Core.Path.{_≡_, refl, sym, ap, ap₂, _∙_}
-use Prim.Native.Nat.{ℕ, suc, _%_, _<_, _≤_}
+use Prim.Native.Nat.{ℕ, zero, suc, _+_, _-_, _*_, _/_, _%_, _^_, _<_, _≤_}
 use native.Mathlib.Decide.{decLe, ℕ-discrete}
 use native.Mathlib.Omega.{arith}
 use borrow.Author.Tests.{ne-eqb, le-leb}
-use lib.IntN.{ℤ}
+use lib.IntN.{ℤ, pos, natAbs, pos-ne-negsuc}
 use lib.ListN.{length}
+use Rattle.base.proofs.Refused.{unless-none}
 use Rattle.fills.specs.FillBytes.{refusalOf}
 use Rattle.fills.specs.Kinds.{kindAt}
 use Rattle.fills.proofs.Theorems as fills
+use Rattle.philox.specs.x8.Machine.{sought, leftOf}
+use Rattle.philox.specs.declared.x8.Philox4x32X8.{Philox4x32X8}
+use Rattle.philox.proofs.x8.Theorems.{left-sought, left-at-most}
 use Rattle.saved.specs.fields.Fields.{fields}
 use Rattle.saved.specs.fields.Saved.{lengthRefusal}
+use Rattle.saved.specs.declared.philox4x32.Loaded.{Loaded}
 use Rattle.saved.specs.philox4x32.Form as philox-form
-use Rattle.saved.specs.philox4x32.Form.{markIn, waitingIn}
+use Rattle.saved.specs.philox4x32.Form.{counterIn, markIn, waitingIn}
 use Rattle.saved.specs.xoshiro256pp.Form as xoshiro-form
 use Rattle.saved.specs.xoshiro256pp.Form.{laneIn}
+use Rattle.saved.proofs.philox4x32.Form.{mark-saved, load-accepted}
 use Rattle.saved.proofs.philox4x32.Theorems as philox-saved
+use Rattle.saved.proofs.philox4x32.Widths.{words-loaded, words-sought, settled-sought}
 use Rattle.saved.proofs.xoshiro256pp.Theorems as xoshiro-saved
 use Rattle.xoshiro.specs.scalar.Calls.{stateOf}
 use Rattle.xoshiro.specs.scalar.Xoshiro256pp.{allZero}
 use Rattle.girderpeach.specs.Claims.{refusal, Answers, wrongLength, zeroLane, wrongMark, noKind, noMultiple}
-use Rattle.girderpeach.specs.Claims.{XoshiroRefusals, PhiloxRefusals}
+use Rattle.girderpeach.specs.Claims.{leftIn, XoshiroRefusals, PhiloxRefusals, SoughtLeft, MostLeft}
 use Rattle.girderpeach.specs.Host.{answerOf, firstOf}
 use Rattle.girderpeach.proofs.Host.{length-no, length-yes}
 use Rattle.girderpeach.proofs.Refusals.{not, stable, is-true, not-true, implies, both, some, when, lowest, answers, in-turn}
@@ -89,6 +96,19 @@ module _ (form : List ℕ) where
           philox-saved.refusals form .unmarked (stable (has-length 96 form) h) z
           (λ i l. stable (ℕ-discrete _ 0) (λ n. w (q, λ z′. (i, l, n))))
 
+  -- the draws left of an accepted form, by its counter and its mark
+  left-read : philox-form.loaded form .refusal ≡ 0 → leftOf (philox-form.loaded form .rng) ≡ leftIn form
+  unfolding leftOf
+  left-read z =
+      let a = load-accepted form z in
+      let f = fields philox-form.layout form in
+      ap leftOf (a .holds) ∙ ap (λ (m : ℕ). 2 * ((2 ^ 64 - counterIn f) / 8) + m) (mark-saved _ _ (a .form) .0)
+
+  left-answer : (r : ℕ) → philox-form.loaded form .refusal ≡ r
+      → answerOf r (leftOf (philox-form.loaded form .rng)) ≡ answerOf r (leftIn form)
+  left-answer zero e = ap pos (left-read e)
+  left-answer (suc r) e = refl
+
 -- ---- the kind, and the output's length
 module _ (k : ℕ) (out : List ℕ) where
   in-table : Dec ((1 ≤ k) × (k ≤ 6))
@@ -151,5 +171,28 @@ philox-refusals =
           on-fill 1 (short 96 form) (mark-decided form) (philox-number form) k out _ (omega arith) (omega arith) (c .called .answers);
       seek = λ n form answer form′ c.
           on-form 1 (short 96 form) (mark-decided form) (philox-number form) 0 (omega arith) (c .answers);
-      draws-left = λ form. on-form 1 (short 96 form) (mark-decided form) (philox-number form) _ (omega arith) refl;
+      draws-left = λ form.
+          on-form 1 (short 96 form) (mark-decided form) (philox-number form) _ (omega arith) (left-answer form _ refl);
     }
+
+-- ---- the draws left, of a form that a seek left and of any form
+-- a call that answers a value was accepted, and the value is its own
+accepted : (r v n : ℕ) → pos n ≡ answerOf r v → (r ≡ 0) × (n ≡ v)
+accepted zero v n e = (refl, ap natAbs e)
+accepted (suc r) v n e = absurd (pos-ne-negsuc n r e)
+
+pub sought-left : SoughtLeft
+sought-left n u64 form bytes form′ c =
+    let z = accepted _ 0 0 (c .answers) .0 in
+    let g = sought (philox-form.loaded form .rng) n in
+    let saved = c .saves ∙ unless-none _ z (philox-form.formOf g) form in
+    let words = words-sought _ n u64 (words-loaded form bytes z) in
+    let read = ap philox-form.loaded saved ∙ philox-saved.load-saved g words in
+    ap (λ (x : Loaded). answerOf (x .refusal) (leftOf (x .rng))) read
+    ∙ ap (λ (x : Philox4x32X8). pos (leftOf x)) (settled-sought _ n)
+    ∙ ap pos (left-sought _ n)
+
+pub most-left : MostLeft
+most-left form n e =
+    let g = philox-form.loaded form .rng in
+    omega (arith, accepted (philox-form.loaded form .refusal) (leftOf g) n (sym e) .1, left-at-most g)

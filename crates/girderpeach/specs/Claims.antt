@@ -4,15 +4,14 @@ use mathlib.Core.Bool.{true}
 use mathlib.Core.List.{List, [], _∷_}
 use mathlib.Core.Logic.{_↔_}
 use mathlib.Core.Path.{_≡_}
-use Prim.Native.Nat.{ℕ, _%_, _<_, _≤_}
+use Prim.Native.Nat.{ℕ, _+_, _-_, _*_, _/_, _%_, _^_, _<_, _≤_}
 use lib.IntN.{ℤ, pos, negℤ}
 use lib.ListN.{length, getD}
 use Rattle.fills.specs.FillBytes.{bytesDraws}
 use Rattle.fills.specs.Kinds.{kindAt}
-use Rattle.philox.specs.x8.Machine.{leftOf}
 use Rattle.saved.specs.fields.Fields.{fields}
 use Rattle.saved.specs.philox4x32.Form as philox-form
-use Rattle.saved.specs.philox4x32.Form.{markIn, waitingIn}
+use Rattle.saved.specs.philox4x32.Form.{counterIn, markIn, waitingIn}
 use Rattle.saved.specs.xoshiro256pp.Form as xoshiro-form
 use Rattle.saved.specs.xoshiro256pp.Form.{laneIn}
 use Rattle.xoshiro.specs.scalar.Calls.{stateOf}
@@ -55,6 +54,13 @@ noKind k = refusal 4 ((1 ≤ k) × (k ≤ 6) → ⊥)
 abbrev pub noMultiple : ℕ → List ℕ → Refusal
 noMultiple k out = refusal 5 (length out % kindAt k .kind .width ≡ 0 → ⊥)
 
+-- ---- the draws left that an accepted form tells: two for each whole group of eight blocks before block 2 ^ 64, and one more where words
+-- wait, which is where the mark is 1 and not 0
+abbrev pub leftIn : List ℕ → ℕ
+leftIn form =
+    let f = fields philox-form.layout form in
+    2 * ((2 ^ 64 - counterIn f) / 8) + markIn f
+
 -- ---- the claims, one for each engine. A fill answers its draws, the draws left are answered, and other calls answer 0.
 pub record XoshiroRefusals : Type 0 where
   pub new : (seed block : ℕ) (form : List ℕ) (jumps : ℕ) (answer : ℤ) (form′ : List ℕ) (jumps′ : ℕ)
@@ -71,5 +77,13 @@ pub record PhiloxRefusals : Type 0 where
       → Answers answer (bytesDraws k (length out)) (wrongLength 96 form ∷ wrongMark form ∷ noKind k ∷ noMultiple k out ∷ [])
   pub seek : (n : ℕ) (form : List ℕ) (answer : ℤ) (form′ : List ℕ) → philox.Sought n form answer form′
       → Answers answer 0 (wrongLength 96 form ∷ wrongMark form ∷ [])
-  pub draws-left : (form : List ℕ)
-      → Answers (philox.drawsLeft form) (leftOf (philox-form.loaded form .rng)) (wrongLength 96 form ∷ wrongMark form ∷ [])
+  pub draws-left : (form : List ℕ) → Answers (philox.drawsLeft form) (leftIn form) (wrongLength 96 form ∷ wrongMark form ∷ [])
+
+-- after an accepted seek to n, on a form of bytes, none wait and the one more is gone
+abbrev pub SoughtLeft : Type 0
+SoughtLeft = (n : ℕ) → n < 2 ^ 64 → (form : List ℕ) → ((i : ℕ) → getD form i 0 < 256) → (form′ : List ℕ)
+    → philox.Sought n form (pos 0) form′ → philox.drawsLeft form′ ≡ pos (2 * ((2 ^ 64 - n) / 8))
+
+-- no more draws are ever left than 2 ^ 62 + 1
+abbrev pub MostLeft : Type 0
+MostLeft = (form : List ℕ) (n : ℕ) → philox.drawsLeft form ≡ pos n → n ≤ 2 ^ 62 + 1

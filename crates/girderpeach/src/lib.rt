@@ -114,7 +114,7 @@ pub extern "C" fn gp_philox_seek(form: &mut [u8], block: u64) -> i64
     0
 }
 
-// Answers the draws that the whole groups before counter 2^64 still hold.
+// Answers the draws that the whole groups before counter 2^64 still hold, and the draw that waits.
 #[no_mangle]
 pub extern "C" fn gp_philox_draws_left(form: &[u8]) -> i64
     ensures { λ r. ⌜ r ≡ philox.drawsLeft (now (form .entry)) ⌝ }

@@ -1,5 +1,5 @@
 // Philox4x32-10 and its fills for a caller in C: a static library that tests/oracle links beside the Rust. The first five arguments are the
-// generator's fields; each call leaves in them the generator after the call.
+// generator's fields; each call that moves the generator leaves in them the generator after the call.
 use philox::x8::Philox4x32X8;
 use philox_fills::bytes;
 use philox_fills::typed;
@@ -7,7 +7,7 @@ ghost use mathlib.Core.Path.{_≡_};
 ghost use Rattle.fills.specs.Fill.{Filled};
 ghost use Rattle.fills.specs.FillBytes.{FilledBytes};
 ghost use Rattle.fills.specs.Kinds.{u64s, u32s, f32s, f64s, normalF32s, normalF64s};
-ghost use Rattle.philox.specs.x8.Machine.{drawn, fresh, sought, grouped, engine};
+ghost use Rattle.philox.specs.x8.Machine.{drawn, fresh, sought, grouped, leftOf, engine};
 ghost use Rattle.oracle_philox.specs.States.{counted, blocksOf};
 
 #[no_mangle]
@@ -131,6 +131,29 @@ pub extern "C" fn oracle_philox_blocks(
     *counter = rng.counter;
     *waiting = rng.waiting;
     *pending = p;
+}
+
+#[no_mangle]
+pub extern "C" fn oracle_philox_draws_left(
+    key: &[u32; 2],
+    stream: &u64,
+    counter: &u64,
+    waiting: &bool,
+    pending: &[u64; 8],
+) -> u64
+    ensures { λ r. ⌜ r
+        ≡ leftOf (counted (now (key .entry)) (now (stream .entry)) (now (counter .entry)) (now (waiting .entry)) (now (pending .entry))) ⌝ }
+{
+    let k = *key;
+    let p = *pending;
+    let g = Philox4x32X8 {
+        key: k,
+        stream: *stream,
+        counter: *counter,
+        waiting: *waiting,
+        pending: p,
+    };
+    g.draws_left()
 }
 
 // The fills answer their draws.

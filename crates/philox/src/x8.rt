@@ -134,12 +134,16 @@ impl Philox4x32X8 {
         Draw { words, rng }
     }
 
-    // The draws that the whole groups before counter 2^64 still hold.
+    // The draws that the whole groups before counter 2^64 still hold, and the draw that waits.
     pub fn draws_left(self) -> u64
         ensures { λ r. ⌜ r ≡ leftOf self ⌝ }
     {
         // 2^64 - counter is rest + 1, which may not fit a u64.
         let rest = u64::MAX - self.counter;
-        2 * (rest / 8 + (rest % 8 + 1) / 8)
+        let groups = rest / 8 + (rest % 8 + 1) / 8;
+        if self.waiting {
+            return 2 * groups + 1;
+        }
+        2 * groups
     }
 }

@@ -4,6 +4,7 @@ use mathlib.Core.List.{List, _∷_}
 use mathlib.Core.Path.{_≡_, refl, ap, _∙_}
 use Prim.Native.Nat.{ℕ}
 use native.Mathlib.Omega.{arith}
+use lib.IntN.{pos}
 use lib.ListN.{length}
 use Rattle.base.specs.Refused.{unless}
 use Rattle.base.specs.Iterate.{iterate}
@@ -11,15 +12,16 @@ use Rattle.base.proofs.Iterate.{iterate-keeps}
 use Rattle.base.proofs.Lists.{along}
 use Rattle.fills.specs.FillBytes.{refusalOf, bytesDraws}
 use Rattle.girderpeach.specs.Host.{answerOf, firstOf}
-use Rattle.history.specs.philox4x32.History.{Tally, start, oneDraw}
-use Rattle.history.proofs.philox4x32.Tallied.{tallied, tallied-start, tallied-words, tallied-draws, tallied-seek}
+use Rattle.girderpeach.specs.Philox.{drawsLeft}
+use Rattle.history.specs.philox4x32.History.{Tally, leftAt, start, oneDraw}
+use Rattle.history.proofs.philox4x32.Tallied.{tallied, tallied-start, tallied-words, tallied-draws, tallied-seek, tallied-left}
 use Rattle.history.proofs.philox4x32.Theorems.{draws-count}
 use Rattle.saved.specs.philox4x32.Claims.{Words, settled}
 use Rattle.saved.specs.philox4x32.Form.{formOf, loaded}
 use Rattle.saved.specs.declared.philox4x32.Loaded.{Loaded}
 use Rattle.saved.proofs.philox4x32.Theorems.{load-saved}
 use Rattle.saved.proofs.philox4x32.Widths.{words-fresh, words-next, words-sought, settled-fresh, settled-next, settled-sought}
-use Rattle.philox.specs.x8.Machine.{wordsOf, nextOf, sought}
+use Rattle.philox.specs.x8.Machine.{wordsOf, nextOf, sought, leftOf}
 use Rattle.philox.specs.declared.x8.Philox4x32X8.{Philox4x32X8}
 use Rattle.history.specs.host.Answers.{ifAccepted}
 use Rattle.history.specs.host.Philox.{Call, fill, seek, Step, formIn, formAfter, Run}
@@ -70,20 +72,24 @@ module _ (g₀ : Philox4x32X8) (t : Tally) {form : List ℕ} (h : Held g₀ t fo
       omega (arith, e, counted (F .called), draws-count (ifAccepted answer (bytesDraws k (length before)) 0) t .0)
   counts (seek n u64 answer form′) C e = refl
 
+  tells-left : drawsLeft form ≡ pos (leftAt t)
+  tells-left = ap (λ (x : Loaded). answerOf (x .refusal) (leftOf (x .rng))) (read-back h) ∙ ap pos (tallied-left g₀ t)
+
 -- a whole list
 abbrev Whole : Philox4x32X8 → List ℕ → List Call → Type 0
 Whole g₀ s₀ calls = Held g₀ (tally calls) (formAfter s₀ calls) × History g₀ s₀ calls
 
 whole : {g₀ : Philox4x32X8} {s₀ : List ℕ} {calls : List Call} → Held g₀ start s₀ → Run s₀ calls → Whole g₀ s₀ calls
 unfolding tallied
-whole {g₀} {s₀} h r = along r (Whole g₀ s₀) (h, record { draws = refl; form = h .holds; outputs = tt }) more
+whole {g₀} {s₀} h r = along r (Whole g₀ s₀) (h, record { draws = refl; form = h .holds; left = tells-left g₀ start h; outputs = tt }) more
   where
     more : (c : Call) (calls : List Call) → Whole g₀ s₀ calls → Step (formAfter s₀ calls) c → Whole g₀ s₀ (c ∷ calls)
     more c calls w f =
         let t : Tally = tally calls in
         let h′ = stands g₀ t (w .0) c f in
         let right′ = is-right g₀ t (w .0) c f in
-        (h′, record { draws = counts g₀ t (w .0) c f (w .1 .draws); form = h′ .holds; outputs = (right′, w .1 .outputs) })
+        let left′ = tells-left g₀ (tally (c ∷ calls)) h′ in
+        (h′, record { draws = counts g₀ t (w .0) c f (w .1 .draws); form = h′ .holds; left = left′; outputs = (right′, w .1 .outputs) })
 
 pub host-adds-up : HostAddsUp
 host-adds-up seed stream a b before s₀ calls n r =

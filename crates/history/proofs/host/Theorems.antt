@@ -22,4 +22,5 @@ host-ships =
       philox-fill = λ κs a r e. (refl, refl);
       xoshiro-jump-blocks = λ κs a r e. (refl, refl);
       philox-seek = λ κs a r e u64. (refl, refl);
+      philox-draws-left = λ κs a r e. (refl, refl);
     }

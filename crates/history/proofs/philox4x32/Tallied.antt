@@ -1,8 +1,8 @@
 -- The generator that a tally stands for, and what each call makes of it. Assumes nothing.
 use mathlib.Core.Bool.{Bool, true, false, cond}
 use mathlib.Core.List.{List}
-use mathlib.Core.Path.{_≡_, refl, ap, _∙_}
-use Prim.Native.Nat.{ℕ, zero, suc, _+_, _*_, _%_, _^_, _<_}
+use mathlib.Core.Path.{_≡_, refl, sym, ap, _∙_}
+use Prim.Native.Nat.{ℕ, zero, suc, _+_, _-_, _*_, _/_, _%_, _^_, _<_}
 use native.Mathlib.Nat.{mod-add-mod}
 use native.Mathlib.Omega.{arith}
 use borrow.Author.Tests.{eq-eqb, ne-eqb, eqb-true, eqb-false}
@@ -12,9 +12,9 @@ use Rattle.base.specs.Iterate.{iterate}
 use Rattle.base.specs.Table.{table}
 use Rattle.base.proofs.Table.{length-table, table-getD}
 use Rattle.fills.specs.Fill.{roundUp}
-use Rattle.philox.specs.x8.Machine.{lowerAt, upperAt, none8, fresh, sought, holding, past, wordsOf, nextOf, grouped}
+use Rattle.philox.specs.x8.Machine.{lowerAt, upperAt, none8, fresh, sought, holding, past, wordsOf, nextOf, grouped, leftOf}
 use Rattle.philox.specs.declared.x8.Philox4x32X8.{Philox4x32X8}
-use Rattle.history.specs.philox4x32.History.{Tally, counterOf, waitsOf, start, oneDraw, oneGroup, wordsAt}
+use Rattle.history.specs.philox4x32.History.{Tally, counterOf, waitsOf, leftAt, start, oneDraw, oneGroup, wordsAt}
 
 -- the generator by its tally, with the key and stream of s₀
 unfoldable pub tallied : Philox4x32X8 → Tally → Philox4x32X8
@@ -75,3 +75,15 @@ tallied-group s₀ t =
 pub tallied-seek : (s₀ : Philox4x32X8) (t : Tally) (n : ℕ) → n < 2 ^ 64 → sought (tallied s₀ t) n ≡ tallied s₀ (record { a = n; g = 0; d = 0; from = 0 })
 unfolding tallied sought counterOf
 tallied-seek s₀ t n h = ap (λ (k : ℕ). record { key = s₀ .key; stream = s₀ .stream; counter = k; waiting = false; pending = none8 }) (omega arith)
+
+-- ---- the draws left
+odd-one : (d : ℕ) → cond (eqb (d % 2) 1) 1 0 ≡ d % 2
+odd-one d = go (eqb (d % 2) 1) refl
+  where
+    go : (b : Bool) → eqb (d % 2) 1 ≡ b → cond b 1 0 ≡ d % 2
+    go true e = sym (eqb-true (d % 2) 1 e)
+    go false e = let q = eqb-false (d % 2) 1 e in omega arith
+
+pub tallied-left : (s₀ : Philox4x32X8) (t : Tally) → leftOf (tallied s₀ t) ≡ leftAt t
+unfolding tallied leftOf
+tallied-left s₀ t = ap (λ (k : ℕ). 2 * ((2 ^ 64 - counterOf t) / 8) + k) (odd-one (t .d))

@@ -11,7 +11,7 @@ use Rattle.base.proofs.Table.{length-table}
 use Rattle.fills.specs.Claims.{Eights}
 use Rattle.fills.specs.Fill.{drawsFor}
 use Rattle.fills.proofs.Handed.{right-fill, right-bytes, draws-made, draws-reported}
-use Rattle.philox.specs.x8.Machine.{lowerAt, upperAt, wordsOf, nextOf, drawn, grouped, sought}
+use Rattle.philox.specs.x8.Machine.{lowerAt, upperAt, wordsOf, nextOf, drawn, grouped, sought, leftOf}
 use Rattle.philox.specs.declared.x8.Blocks.{Blocks}
 use Rattle.philox.specs.declared.x8.Draw.{Draw}
 use Rattle.philox.specs.declared.x8.Philox4x32X8.{Philox4x32X8}
@@ -22,7 +22,7 @@ use Rattle.history.specs.philox4x32.Shipped.{PhiloxShips}
 use Rattle.history.proofs.Draws.{right-draws}
 use Rattle.history.proofs.Rows.{rows}
 use Rattle.history.proofs.philox4x32.Tallied.{tallied, tallied-start, tallied-words, tallied-draw}
-use Rattle.history.proofs.philox4x32.Tallied.{tallied-draws, tallied-group, tallied-seek}
+use Rattle.history.proofs.philox4x32.Tallied.{tallied-draws, tallied-group, tallied-seek, tallied-left}
 
 pub draws-count : DrawsCount
 unfolding iterate oneDraw
@@ -109,6 +109,7 @@ draws-add-up seed stream s₀ calls e r =
       counter = ap (λ (s : Philox4x32X8). s .counter) (w .rng);
       waits = ap (λ (s : Philox4x32X8). s .waiting) (w .rng);
       pending = ap (λ (s : Philox4x32X8). s .pending) (w .rng);
+      left = ap leftOf (w .rng) ∙ tallied-left s₀ (tally calls);
       outputs = w .outputs;
     }
 
@@ -122,6 +123,7 @@ philox-ships =
       draws-draw = λ κs a r e. (refl, refl);
       blocks = λ κs a r e. (refl, refl);
       seeks = λ κs a r e u64. (refl, refl);
+      draws-left = λ κs a r e. (refl, refl);
       fill-u64 = λ κs a r e. (refl, refl);
       fill-u32 = λ κs a r e. (refl, refl);
       fill-f32 = λ κs a r e. (refl, refl);

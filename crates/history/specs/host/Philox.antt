@@ -10,8 +10,8 @@ use Rattle.base.specs.Iterate.{iterate}
 use Rattle.base.specs.Lists as lists
 use Rattle.base.specs.Lists.{folded, Each}
 use Rattle.fills.specs.FillBytes.{refusalOf, bytesDraws}
-use Rattle.girderpeach.specs.Philox.{Filled, New, Sought}
-use Rattle.history.specs.philox4x32.History.{Tally, counterOf, waitsOf, start, oneDraw, wordsAt}
+use Rattle.girderpeach.specs.Philox.{Filled, New, Sought, drawsLeft}
+use Rattle.history.specs.philox4x32.History.{Tally, counterOf, waitsOf, leftAt, start, oneDraw, wordsAt}
 use Rattle.saved.specs.philox4x32.Form.{formOf}
 use Rattle.philox.specs.x8.Machine.{upperAt, none8, fresh}
 use Rattle.philox.specs.declared.x8.Philox4x32X8.{Philox4x32X8}
@@ -76,6 +76,8 @@ pub record History (g₀ : Philox4x32X8) (s₀ : List ℕ) (calls : List Call) :
   pub draws : reported calls ≡ tally calls .d
   -- the form is that of the counter and the waiting words of the tally
   pub form : formAfter s₀ calls ≡ formOf (standing g₀ (tally calls))
+  -- the draws left, as gp_philox_draws_left answers them
+  pub left : drawsLeft (formAfter s₀ calls) ≡ pos (leftAt (tally calls))
   -- every call answered and wrote what it should
   pub outputs : AllRight g₀ s₀ calls
 

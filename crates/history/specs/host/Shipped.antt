@@ -1,5 +1,6 @@
 -- The lists of a host's calls are lists of calls of the C functions that ship: what a caller learns from a function's own contract is its
--- call's step in a list, and the function asks nothing.
+-- call's step in a list, and the function asks nothing. The draws left, of which the lists tell after every call, are what the function
+-- that answers them promises.
 use mathlib.Core.Path.{_≡_}
 use Prim.Native.Nat.{_^_, _<_}
 use contract.Lifetimes.{Lfts}
@@ -7,6 +8,7 @@ use borrow.Fn.Kinds.{Dens}
 use denote.Ref.{now}
 use Rattle.girderpeach.specs.Philox as philox-calls
 use Rattle.girderpeach.specs.Xoshiro as xoshiro-calls
+use Rattle.girderpeach.proofs.gp_philox_draws_left.Reads as philox-left-reads
 use Rattle.girderpeach.proofs.gp_philox_fill.Reads as philox-fill-reads
 use Rattle.girderpeach.proofs.gp_philox_new.Reads as philox-new-reads
 use Rattle.girderpeach.proofs.gp_philox_seek.Kinds as philox-seek-kinds
@@ -35,3 +37,5 @@ pub record HostShips : Type 1 where
   pub philox-seek : (κs : Lfts 1) (a : Dens κs philox-seek-kinds.ps) (r : _) (e : _) (u64 : a .1 .0 < 2 ^ 64)
       → (philox-seek-reads.Asked κs a ≡ Unit {0})
       × (philox-seek-reads.Learnt κs a r e ≡ philox.Step (now (a .0)) (philox.seek (a .1 .0) u64 r (now (e .0))))
+  -- the draws left, which is no step
+  pub philox-draws-left : Says philox-left-reads.Asked philox-left-reads.Learnt (λ κs a r e. r ≡ philox-calls.drawsLeft (now (a .0)))

@@ -3,7 +3,7 @@
 use mathlib.Core.Bool.{Bool, cond}
 use mathlib.Core.List.{List}
 use mathlib.Core.Path.{_≡_}
-use Prim.Native.Nat.{ℕ, _+_, _*_, _%_, _^_}
+use Prim.Native.Nat.{ℕ, _+_, _-_, _*_, _/_, _%_, _^_}
 use lib.Dec.{eqb}
 use lib.ListN.{length}
 use Rattle.base.specs.Refused.{unless}
@@ -12,7 +12,7 @@ use Rattle.base.specs.Lists.{folded, Each}
 use Rattle.fills.specs.Fill.{roundUp, drawsFor}
 use Rattle.fills.specs.FillBytes.{refusalOf, bytesDraws}
 use Rattle.fills.specs.Handed.{RightFill, RightBytes}
-use Rattle.philox.specs.x8.Machine.{groupAt, lowerAt, upperAt, none8, fresh}
+use Rattle.philox.specs.x8.Machine.{groupAt, lowerAt, upperAt, none8, fresh, leftOf}
 use Rattle.philox.specs.declared.x8.Blocks.{Blocks}
 use Rattle.philox.specs.declared.x8.Philox4x32X8.{Philox4x32X8}
 use Rattle.history.specs.Draws.{RightDraws}
@@ -34,6 +34,10 @@ counterOf t = (t .a + 8 * (t .g + roundUp (t .d) 2)) % 2 ^ 64
 -- words wait exactly when d is odd
 abbrev pub waitsOf : Tally → Bool
 waitsOf t = eqb (t .d % 2) 1
+
+-- the draws left: two for each whole group of eight blocks before block 2 ^ 64, and one more when d is odd
+abbrev pub leftAt : Tally → ℕ
+leftAt t = 2 * ((2 ^ 64 - counterOf t) / 8) + t .d % 2
 
 abbrev pub start : Tally
 start = record { a = 0; g = 0; d = 0; from = 0 }
@@ -105,6 +109,8 @@ pub record History (s₀ : Philox4x32X8) (calls : List Call) : Type 0 where
   pub counter : rngAfter s₀ calls .counter ≡ counterOf (tally calls)
   pub waits : rngAfter s₀ calls .waiting ≡ waitsOf (tally calls)
   pub pending : rngAfter s₀ calls .pending ≡ cond (waitsOf (tally calls)) (upperAt s₀ (tally calls .from)) none8
+  -- the draws left
+  pub left : leftOf (rngAfter s₀ calls) ≡ leftAt (tally calls)
   -- every call handed out what it should
   pub outputs : AllRight s₀ calls
 

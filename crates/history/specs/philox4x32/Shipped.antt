@@ -1,5 +1,6 @@
 -- The lists are lists of calls of the functions that ship: for each constructor from a seed, and each public function that moves a Philox
--- generator or draws from it, what a caller learns from its own contract is its call's step in a list, and it asks nothing.
+-- generator or draws from it, what a caller learns from its own contract is its call's step in a list, and it asks nothing. The draws left,
+-- of which the lists tell after every call, are what the function that answers them promises.
 use mathlib.Core.Path.{_≡_}
 use Prim.Native.Nat.{_-_, _^_, _<_, min}
 use contract.Lifetimes.{Lfts}
@@ -8,10 +9,11 @@ use denote.Ref.{now}
 use lib.ListN.{length}
 use Rattle.fills.specs.Kinds.{u64s, u32s, f32s, f64s, normalF32s, normalF64s}
 use Rattle.philox.specs.draws.Draws.{drawsAtOnce}
-use Rattle.philox.specs.x8.Machine.{fresh}
+use Rattle.philox.specs.x8.Machine.{fresh, leftOf}
 use Rattle.philox.proofs.draws.draw.Reads as draw-reads
 use Rattle.philox.proofs.draws.draw_many.Reads as draw-many-reads
 use Rattle.philox.proofs.x8.Philox4x32X8.blocks.Reads as blocks-reads
+use Rattle.philox.proofs.x8.Philox4x32X8.draws_left.Reads as draws-left-reads
 use Rattle.philox.proofs.x8.Philox4x32X8.from_seed.Reads as from-seed-reads
 use Rattle.philox.proofs.x8.Philox4x32X8.new.Reads as new-reads
 use Rattle.philox.proofs.x8.Philox4x32X8.next_u64x8.Reads as next-u64x8-reads
@@ -38,6 +40,8 @@ pub record PhiloxShips : Type 1 where
   pub blocks : Says blocks-reads.Asked blocks-reads.Learnt (λ κs a r e. Step (a .0) (group r))
   pub seeks : (κs : Lfts 0) (a : Dens κs seek-kinds.ps) (r : _) (e : _) (u64 : a .1 .0 < 2 ^ 64)
       → (seek-reads.Asked κs a ≡ Unit {0}) × (seek-reads.Learnt κs a r e ≡ Step (a .0) (seek (a .1 .0) u64 r))
+  -- the draws left, which is no step
+  pub draws-left : Says draws-left-reads.Asked draws-left-reads.Learnt (λ κs a r e. r ≡ leftOf (a .0))
   -- the fills
   pub fill-u64 : Says fill-u64-reads.Asked fill-u64-reads.Learnt (λ κs a r e. Step (a .0) (fill u64s (now (a .1 .0)) (now (e .1 .0)) r))
   pub fill-u32 : Says fill-u32-reads.Asked fill-u32-reads.Learnt (λ κs a r e. Step (a .0) (fill u32s (now (a .1 .0)) (now (e .1 .0)) r))

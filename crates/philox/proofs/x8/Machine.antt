@@ -10,7 +10,7 @@ use Rattle.base.specs.Quad.{Quad}
 use Rattle.base.proofs.Table.{table-same, table-getD, getD-table}
 use Rattle.philox.specs.block.Philox.{groupOf}
 use Rattle.philox.specs.declared.block.Group.{Group}
-use Rattle.philox.specs.x8.Machine.{joinOf, blockAt, groupAt, lowerAt, upperAt, sought, holding, past, wordsOf, nextOf, drawn}
+use Rattle.philox.specs.x8.Machine.{joinOf, blockAt, groupAt, lowerAt, upperAt, sought, holding, past, wordsOf, nextOf, drawn, leftOf}
 use Rattle.philox.specs.declared.x8.Philox4x32X8.{Philox4x32X8}
 use Rattle.philox.specs.declared.x8.Draw.{Draw}
 
@@ -62,6 +62,11 @@ drawn-fresh g e er el eh en =
     (λ i. record { words = lo i; rng = record { key = g .key; stream = g .stream; counter = en i; waiting = true; pending = hi i } })
     ∙ (λ i. record { words = sym (words-fresh g e) i; rng = sym (next-fresh g e) i })
 
--- ---- the groups left, by 2 ^ 64 - 1
-pub groups-left : (c : ℕ) → c < 2 ^ 64 → 2 * ((2 ^ 64 - 1 - c) / 8 + ((2 ^ 64 - 1 - c) % 8 + 1) / 8) ≡ 2 * ((2 ^ 64 - c) / 8)
+-- ---- the draws left, by the groups and by whether words wait
+pub left-by : (g : Philox4x32X8) {b : Bool} → g .waiting ≡ b → leftOf g ≡ 2 * ((2 ^ 64 - g .counter) / 8) + cond b 1 0
+unfolding leftOf
+left-by g e = ap (λ (b : Bool). 2 * ((2 ^ 64 - g .counter) / 8) + cond b 1 0) e
+
+-- the groups, by 2 ^ 64 - 1
+pub groups-left : (c : ℕ) → c < 2 ^ 64 → (2 ^ 64 - 1 - c) / 8 + ((2 ^ 64 - 1 - c) % 8 + 1) / 8 ≡ (2 ^ 64 - c) / 8
 groups-left c h = omega arith

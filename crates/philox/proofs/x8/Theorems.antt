@@ -1,17 +1,22 @@
 -- The claims of specs/x8/Claims.antt. Assumes nothing.
-use mathlib.Core.Bool.{Bool, true, false, cond}
+use mathlib.Core.Bool.{Bool, true, false, cond, true≢false}
 use mathlib.Core.List.{List}
-use mathlib.Core.Path.{_≡_, refl, ap, _∙_}
-use Prim.Native.Nat.{ℕ, _+_, _*_, _^_, _<_}
+use mathlib.Core.Path.{_≡_, refl, sym, ap, _∙_}
+use Prim.Native.Nat.{ℕ, zero, suc, _+_, _-_, _*_, _/_, _%_, _^_, _<_, _≤_}
+use native.Mathlib.Decide.{decLe}
+use native.Mathlib.Omega.{arith}
 use lib.ListN.{getD, length}
+use Rattle.base.specs.Iterate.{iterate}
 use Rattle.base.specs.Table.{table}
 use Rattle.base.specs.Quad.{Quad}
 use Rattle.base.proofs.Table.{getD-table}
 use Rattle.philox.specs.block.Philox.{groupOf}
-use Rattle.philox.specs.x8.Machine.{blockAt, lowerAt, upperAt, sought, holding, grouped, wordsOf, drawn}
+use Rattle.philox.specs.x8.Machine.{blockAt, lowerAt, upperAt, fresh, sought, holding, grouped, wordsOf, nextOf, drawn, leftOf}
 use Rattle.philox.specs.x8.Claims.{DrawWaiting, DrawFresh, GroupCall, Seek, EightWords}
+use Rattle.philox.specs.x8.Claims.{LeftWaiting, LeftFresh, LeftSought, LeftDrawn, LeftGrouped}
+use Rattle.philox.specs.x8.Claims.{LeftWrapped, LeftAfter, LeftWithin, NoneLeft, LeftNew, LeftAtMost}
 use Rattle.philox.specs.declared.x8.Philox4x32X8.{Philox4x32X8}
-use Rattle.philox.proofs.x8.Machine.{words-waiting, next-waiting, words-fresh, next-fresh}
+use Rattle.philox.proofs.x8.Machine.{words-waiting, next-waiting, words-fresh, next-fresh, left-by}
 
 pub seek : Seek
 unfolding sought
@@ -47,3 +52,105 @@ eight-words g = go (g .waiting)
     go : (b : Bool) → length (cond b (table 8 (λ i. getD (g .pending) i 0)) (lowerAt g (g .counter))) ≡ 8
     go true = refl
     go false = refl
+
+-- ---- draws left
+pub left-waiting : LeftWaiting
+left-waiting g e = left-by g e
+
+pub left-fresh : LeftFresh
+left-fresh g e = omega (arith, left-by g e)
+
+pub left-sought : LeftSought
+unfolding leftOf sought
+left-sought g n = omega arith
+
+pub left-new : LeftNew
+unfolding leftOf fresh
+left-new seed stream = refl
+
+-- after a draw, by whether words waited
+waited : (g : Philox4x32X8) → g .waiting ≡ true → leftOf (nextOf g) ≡ 2 * ((2 ^ 64 - g .counter) / 8)
+unfolding leftOf sought
+waited g e = omega (arith, ap leftOf (next-waiting g e))
+
+begun : (g : Philox4x32X8) → g .waiting ≡ false → leftOf (nextOf g) ≡ 2 * ((2 ^ 64 - (g .counter + 8) % 2 ^ 64) / 8) + 1
+unfolding leftOf holding
+begun g e = ap leftOf (next-fresh g e)
+
+pub left-drawn : LeftDrawn
+unfolding drawn
+left-drawn g h = go (g .waiting) refl
+  where
+    go : (b : Bool) → g .waiting ≡ b → leftOf (nextOf g) + 1 ≡ leftOf g
+    go true e = omega (arith, waited g e, left-by g e)
+    go false e = omega (arith, h e, begun g e, left-by g e)
+
+pub left-grouped : LeftGrouped
+unfolding leftOf grouped
+left-grouped g h = omega arith
+
+pub left-wrapped : LeftWrapped
+unfolding drawn
+left-wrapped g e h = omega (arith, begun g e)
+
+-- where none wait and three draws or more are left, there are two whole groups
+pub left-after : LeftAfter
+unfolding iterate drawn
+left-after g zero h = omega arith
+left-after g (suc m) h =
+    let before = left-after g m (omega arith) in
+    let x = iterate nextOf m g in
+    omega (arith, before, left-drawn x (λ e. omega (arith, before, left-by x e)))
+
+-- the counter after a draw, while it stays below 2 ^ 64
+counted-on : (g : Philox4x32X8) → (g .waiting ≡ false → g .counter + 8 < 2 ^ 64) → g .counter ≤ nextOf g .counter
+unfolding sought holding
+counted-on g h = go (g .waiting) refl
+  where
+    go : (b : Bool) → g .waiting ≡ b → g .counter ≤ nextOf g .counter
+    go true e = omega (arith, ap (λ (x : Philox4x32X8). x .counter) (next-waiting g e))
+    go false e = omega (arith, h e, ap (λ (x : Philox4x32X8). x .counter) (next-fresh g e))
+
+counted-far : (g : Philox4x32X8) (m : ℕ) → m + 2 ≤ leftOf g → g .counter ≤ iterate nextOf m g .counter
+unfolding iterate
+counted-far g zero h = omega arith
+counted-far g (suc m) h =
+    let x = iterate nextOf m g in
+    omega (arith, counted-far g m (omega arith), counted-on x (λ e. omega (arith, left-after g m (omega arith), left-by x e)))
+
+-- words wait after the draw that leaves one, so that no group begins there
+pub left-within : LeftWithin
+unfolding iterate holding
+left-within g m h e = elim (decLe (m + 2) (leftOf g)) [
+  | yes k ↦ (counted-far g m k, omega (arith, left-after g m k, left-by (iterate nextOf m g) e))
+  | no k ↦ absurd (last m (omega arith) e)
+]
+  where
+    last : (m : ℕ) → m + 1 ≡ leftOf g → iterate nextOf m g .waiting ≡ false → ⊥
+    last zero q w = absurd (omega (arith, left-by g w))
+    last (suc m) q w = waits (iterate nextOf m g .waiting) refl
+      where
+        x : Philox4x32X8
+        x = iterate nextOf m g
+
+        two : leftOf x ≡ 2
+        two = omega (arith, left-after g m (omega arith))
+
+        waits : (b : Bool) → x .waiting ≡ b → ⊥
+        waits true b = absurd (omega (arith, two, left-by x b))
+        waits false b = true≢false (sym (ap (λ (y : Philox4x32X8). y .waiting) (next-fresh x b)) ∙ w)
+
+pub none-left : NoneLeft
+none-left g = (λ z. let w = none-waits (g .waiting) refl z in (w, omega (arith, left-by g w)), λ h. omega (arith, left-by g (h .0), h .1))
+  where
+    none-waits : (b : Bool) → g .waiting ≡ b → leftOf g ≡ 0 → g .waiting ≡ false
+    none-waits true e z = absurd (omega (arith, left-by g e))
+    none-waits false e z = e
+
+at-most-one : (b : Bool) → cond b 1 0 ≤ 1
+at-most-one true = omega arith
+at-most-one false = omega arith
+
+pub left-at-most : LeftAtMost
+unfolding leftOf
+left-at-most g = omega (arith, at-most-one (g .waiting))

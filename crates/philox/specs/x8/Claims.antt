@@ -1,9 +1,11 @@
 -- What is claimed of Philox4x32X8: the plain machine, event by event. Each claim is proved in proofs/x8/Theorems.antt.
 use mathlib.Core.Bool.{Bool, true, false}
+use mathlib.Core.Logic.{_↔_}
 use mathlib.Core.Path.{_≡_}
-use Prim.Native.Nat.{ℕ, _+_, _*_, _%_, _^_, _<_}
+use Prim.Native.Nat.{ℕ, _+_, _-_, _*_, _/_, _%_, _^_, _<_, _≤_}
 use lib.ListN.{getD, length}
-use Rattle.philox.specs.x8.Machine.{blockAt, sought, grouped, wordsOf, drawn}
+use Rattle.base.specs.Iterate.{iterate}
+use Rattle.philox.specs.x8.Machine.{blockAt, fresh, sought, grouped, wordsOf, nextOf, drawn, leftOf}
 use Rattle.philox.specs.declared.x8.Philox4x32X8.{Philox4x32X8}
 
 -- g′ has the key and the stream of g, this counter, and words wait or not
@@ -43,3 +45,45 @@ Seek = (g : Philox4x32X8) (n : ℕ) → Stands g (sought g n) n false
 -- a draw has eight words, on every record
 abbrev pub EightWords : Type 0
 EightWords = (g : Philox4x32X8) → length (wordsOf g) ≡ 8
+
+-- ---- draws left: two for each whole group of eight blocks before block 2 ^ 64, and one more where words wait
+abbrev pub LeftWaiting : Type 0
+LeftWaiting = (g : Philox4x32X8) → g .waiting ≡ true → leftOf g ≡ 2 * ((2 ^ 64 - g .counter) / 8) + 1
+
+abbrev pub LeftFresh : Type 0
+LeftFresh = (g : Philox4x32X8) → g .waiting ≡ false → leftOf g ≡ 2 * ((2 ^ 64 - g .counter) / 8)
+
+-- a seek drops the words that wait, and the one more with them
+abbrev pub LeftSought : Type 0
+LeftSought = (g : Philox4x32X8) (n : ℕ) → leftOf (sought g n) ≡ 2 * ((2 ^ 64 - n) / 8)
+
+-- a draw takes one off, and a group call two, while the counter stays below 2 ^ 64
+abbrev pub LeftDrawn : Type 0
+LeftDrawn = (g : Philox4x32X8) → (g .waiting ≡ false → g .counter + 8 < 2 ^ 64) → leftOf (drawn g .rng) + 1 ≡ leftOf g
+
+abbrev pub LeftGrouped : Type 0
+LeftGrouped = (g : Philox4x32X8) → g .counter + 8 < 2 ^ 64 → leftOf (grouped g .rng) + 2 ≡ leftOf g
+
+-- the draw that takes the counter to 2 ^ 64 itself makes it 0, as in a new generator, and words wait
+abbrev pub LeftWrapped : Type 0
+LeftWrapped = (g : Philox4x32X8) → g .waiting ≡ false → g .counter + 8 ≡ 2 ^ 64 → leftOf (drawn g .rng) ≡ 2 ^ 62 + 1
+
+-- so m draws take m off, as long as two or more are left after them
+abbrev pub LeftAfter : Type 0
+LeftAfter = (g : Philox4x32X8) (m : ℕ) → m + 2 ≤ leftOf g → leftOf (iterate nextOf m g) + m ≡ leftOf g
+
+-- so many draws can be made: where one of them begins a group, its eight blocks stand before 2 ^ 64, and not before the counter
+abbrev pub LeftWithin : Type 0
+LeftWithin = (g : Philox4x32X8) (m : ℕ) → m < leftOf g → iterate nextOf m g .waiting ≡ false
+    → (g .counter ≤ iterate nextOf m g .counter) × (iterate nextOf m g .counter + 8 ≤ 2 ^ 64)
+
+-- none is left exactly where none wait and the next group would pass 2 ^ 64
+abbrev pub NoneLeft : Type 0
+NoneLeft = (g : Philox4x32X8) → (leftOf g ≡ 0) ↔ (g .waiting ≡ false) × (2 ^ 64 < g .counter + 8)
+
+-- a new generator has 2 ^ 62 left, and none has more than 2 ^ 62 + 1
+abbrev pub LeftNew : Type 0
+LeftNew = (seed stream : ℕ) → leftOf (fresh seed stream) ≡ 2 ^ 62
+
+abbrev pub LeftAtMost : Type 0
+LeftAtMost = (g : Philox4x32X8) → leftOf g ≤ 2 ^ 62 + 1

@@ -77,6 +77,6 @@ grouped g =
       rng = record { key = g .key; stream = g .stream; counter = past (g .counter); waiting = g .waiting; pending = g .pending };
     }
 
--- ---- draws left: two for each whole group of eight blocks before block 2 ^ 64
+-- ---- draws left: two for each whole group of eight blocks before block 2 ^ 64, and one more where words wait
 unfoldable pub leftOf : Philox4x32X8 → ℕ
-leftOf g = 2 * ((2 ^ 64 - g .counter) / 8)
+leftOf g = 2 * ((2 ^ 64 - g .counter) / 8) + cond (g .waiting) 1 0

@@ -160,7 +160,8 @@ form-read g w = go (g .waiting)
     go false = λ i. holding false (key i) none8
 
 -- where the fields are a form's, the mark and the words are those that are saved
-mark-saved : (m : ℕ) (f : ℕ → ℕ) → isForm m (table 8 f) ≡ true → (cond (eqb m 1) 1 0 ≡ m) × (cond (eqb m 1) (table 8 f) none8 ≡ table 8 f)
+pub mark-saved : (m : ℕ) (f : ℕ → ℕ) → isForm m (table 8 f) ≡ true
+    → (cond (eqb m 1) 1 0 ≡ m) × (cond (eqb m 1) (table 8 f) none8 ≡ table 8 f)
 unfolding isForm table
 mark-saved m f h = go (eqb m 1) refl h
   where

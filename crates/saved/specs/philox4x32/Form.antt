@@ -27,6 +27,9 @@ unfoldable pub formOf : Philox4x32X8 → List ℕ
 formOf g = laidOut layout (fieldsOf g)
 
 -- ---- load
+abbrev pub counterIn : List ℕ → ℕ
+counterIn f = getD f 3 0
+
 abbrev pub markIn : List ℕ → ℕ
 markIn f = getD f 4 0
 
@@ -34,7 +37,14 @@ abbrev pub waitingIn : List ℕ → List ℕ
 waitingIn f = table 8 (λ i. getD f (5 + i) 0)
 
 abbrev pub ofFields : List ℕ → Philox4x32X8
-ofFields f = record { key = getD f 0 0 ∷ getD f 1 0 ∷ []; stream = getD f 2 0; counter = getD f 3 0; waiting = eqb (markIn f) 1; pending = waitingIn f }
+ofFields f =
+    record {
+      key = getD f 0 0 ∷ getD f 1 0 ∷ [];
+      stream = getD f 2 0;
+      counter = counterIn f;
+      waiting = eqb (markIn f) 1;
+      pending = waitingIn f;
+    }
 
 -- the mark is 1; or it is 0, and the words that would wait are zero
 unfoldable pub isForm : ℕ → List ℕ → Bool
