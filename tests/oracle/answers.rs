@@ -89,18 +89,18 @@ fn patterns(out: &[u8], width: usize) -> impl Iterator<Item = u64> + '_ {
 /// Fills of every kind, typed and then by bytes, and the draw after them.
 fn fills<R: Rng8>(mut rng: R) {
     for n in [21, 1100] {
-        for (kind, row) in (1..).zip(&KINDS) {
-            let (draws, out) = filled(&mut rng, kind, n);
+        for kind in &KINDS {
+            let (draws, out) = filled(&mut rng, kind.number, n);
             println!("{draws}");
             if n < 64 {
-                patterns(&out, row.width).for_each(|x| println!("{x:0digits$x}", digits = 2 * row.width));
+                patterns(&out, kind.width).for_each(|x| println!("{x:0digits$x}", digits = 2 * kind.width));
             }
-            println!("{:016x}", digest(patterns(&out, row.width)));
+            println!("{:016x}", digest(patterns(&out, kind.width)));
         }
     }
-    for (kind, row) in (1..).zip(&KINDS) {
+    for kind in &KINDS {
         for bytes in [168, 8800] {
-            let (draws, out) = filled(&mut rng, kind, bytes / row.width);
+            let (draws, out) = filled(&mut rng, kind.number, bytes / kind.width);
             println!("{draws}");
             println!("{:016x}", digest(patterns(&out, 1)));
         }

@@ -4,30 +4,8 @@
 mod common;
 mod forms;
 use common::{Count, Random};
-use forms::draws_left;
+use forms::{draws_left, kind, Kind, KINDS};
 use tpt_simd_rng::{Philox4x32X8, Rng8, Xoshiro256ppX8};
-
-/// A row of the table of kinds: an element has `width` bytes, and a group of `places` elements takes `draws` draws.
-struct Kind {
-    name: &'static str,
-    number: u64,
-    width: usize,
-    places: usize,
-    draws: usize,
-}
-const KINDS: [Kind; 6] = [
-    Kind { name: "fill_u64", number: 1, width: 8, places: 8, draws: 1 },
-    Kind { name: "fill_u32", number: 2, width: 4, places: 16, draws: 1 },
-    Kind { name: "fill_f32", number: 3, width: 4, places: 16, draws: 1 },
-    Kind { name: "fill_f64", number: 4, width: 8, places: 8, draws: 1 },
-    Kind { name: "fill_normal_f32", number: 5, width: 4, places: 16, draws: 1 },
-    Kind { name: "fill_normal_f64", number: 6, width: 8, places: 16, draws: 2 },
-];
-impl Kind {
-    fn draws_for(&self, n: usize) -> u64 {
-        (self.draws * n.div_ceil(self.places)) as u64
-    }
-}
 
 /// An element from any bits, and its bytes.
 trait Element: Copy {
@@ -130,7 +108,7 @@ trait Engine: Sized {
 
     /// A fill of n bytes, against the bytes of the Rust's elements. Where it should be refused, nothing happens on the Rust's side.
     fn bytes(&mut self, number: u64, n: usize, count: &mut Count) {
-        let kind = KINDS.iter().find(|kind| kind.number == number);
+        let kind = kind(number);
         let (ours, (refusal, draws)) = self.fill_bytes(number, n);
         let (answer, after) = match kind {
             Some(kind) if n % kind.width == 0 => {

@@ -5,22 +5,28 @@ use tpt_simd_rng::{Philox4x32X8, Rng8, Xoshiro256ppX8};
 
 /// A row of the table of kinds: an element has `width` bytes, and a group of `places` elements takes `draws` draws.
 pub struct Kind {
+    pub name: &'static str,
+    pub number: u64,
     pub width: usize,
     pub places: usize,
     pub draws: usize,
 }
-/// Kind 1 first.
 pub const KINDS: [Kind; 6] = [
-    Kind { width: 8, places: 8, draws: 1 },
-    Kind { width: 4, places: 16, draws: 1 },
-    Kind { width: 4, places: 16, draws: 1 },
-    Kind { width: 8, places: 8, draws: 1 },
-    Kind { width: 4, places: 16, draws: 1 },
-    Kind { width: 8, places: 16, draws: 2 },
+    Kind { name: "fill_u64", number: 1, width: 8, places: 8, draws: 1 },
+    Kind { name: "fill_u32", number: 2, width: 4, places: 16, draws: 1 },
+    Kind { name: "fill_f32", number: 3, width: 4, places: 16, draws: 1 },
+    Kind { name: "fill_f64", number: 4, width: 8, places: 8, draws: 1 },
+    Kind { name: "fill_normal_f32", number: 5, width: 4, places: 16, draws: 1 },
+    Kind { name: "fill_normal_f64", number: 6, width: 8, places: 16, draws: 2 },
 ];
+impl Kind {
+    pub fn draws_for(&self, n: usize) -> u64 {
+        (self.draws * n.div_ceil(self.places)) as u64
+    }
+}
 
 pub fn kind(number: u64) -> Option<&'static Kind> {
-    KINDS.get(number.checked_sub(1)? as usize)
+    KINDS.iter().find(|kind| kind.number == number)
 }
 
 fn bytes<T: Copy + Default, const W: usize>(n: usize, fill: impl FnOnce(&mut [T]), le: impl Fn(T) -> [u8; W]) -> Vec<u8> {
@@ -39,8 +45,7 @@ pub fn filled<R: Rng8>(rust: &mut R, number: u64, n: usize) -> (i64, Vec<u8>) {
         5 => bytes(n, |out| rust.fill_normal_f32(out), f32::to_le_bytes),
         _ => bytes(n, |out| rust.fill_normal_f64(out), f64::to_le_bytes),
     };
-    let kind = kind(number).expect("a kind");
-    ((kind.draws * n.div_ceil(kind.places)) as i64, out)
+    (kind(number).expect("a kind").draws_for(n) as i64, out)
 }
 
 pub trait Saved: Rng8 {

@@ -141,7 +141,7 @@ fn xoshiro_many(g: Xoshiro256ppX8) -> Xoshiro256ppX8 {
     xoshiro_normal_f64(e, &mut [0.0f64; 1100])
 }
 
-pub fn xoshiro(start: Xoshiro256ppX8) -> Xoshiro256ppX8 {
+pub(crate) fn xoshiro(start: Xoshiro256ppX8) -> Xoshiro256ppX8 {
     let few = xoshiro_few(start);
     let mut rng = xoshiro_many(few);
     for kind in 1u64..7 {
@@ -213,7 +213,7 @@ fn philox_many(g: Philox4x32X8) -> Philox4x32X8 {
     philox_normal_f64(e, &mut [0.0f64; 1100])
 }
 
-pub fn philox(start: Philox4x32X8) -> Philox4x32X8 {
+pub(crate) fn philox(start: Philox4x32X8) -> Philox4x32X8 {
     let few = philox_few(start);
     let mut rng = philox_many(few);
     for kind in 1u64..7 {

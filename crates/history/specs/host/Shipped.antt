@@ -37,5 +37,5 @@ pub record HostShips : Type 1 where
   pub philox-seek : (κs : Lfts 1) (a : Dens κs philox-seek-kinds.ps) (r : _) (e : _) (u64 : a .1 .0 < 2 ^ 64)
       → (philox-seek-reads.Asked κs a ≡ Unit {0})
       × (philox-seek-reads.Learnt κs a r e ≡ philox.Step (now (a .0)) (philox.seek (a .1 .0) u64 r (now (e .0))))
-  -- the draws left, which is no step
+  -- the draws left: no step
   pub philox-draws-left : Says philox-left-reads.Asked philox-left-reads.Learnt (λ κs a r e. r ≡ philox-calls.drawsLeft (now (a .0)))

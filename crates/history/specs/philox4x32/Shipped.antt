@@ -40,7 +40,7 @@ pub record PhiloxShips : Type 1 where
   pub blocks : Says blocks-reads.Asked blocks-reads.Learnt (λ κs a r e. Step (a .0) (group r))
   pub seeks : (κs : Lfts 0) (a : Dens κs seek-kinds.ps) (r : _) (e : _) (u64 : a .1 .0 < 2 ^ 64)
       → (seek-reads.Asked κs a ≡ Unit {0}) × (seek-reads.Learnt κs a r e ≡ Step (a .0) (seek (a .1 .0) u64 r))
-  -- the draws left, which is no step
+  -- the draws left: no step
   pub draws-left : Says draws-left-reads.Asked draws-left-reads.Learnt (λ κs a r e. r ≡ leftOf (a .0))
   -- the fills
   pub fill-u64 : Says fill-u64-reads.Asked fill-u64-reads.Learnt (λ κs a r e. Step (a .0) (fill u64s (now (a .1 .0)) (now (e .1 .0)) r))
