@@ -1,6 +1,6 @@
 //! Writes the Rust's answers for the calls that crates/vectors makes, in the same order and layout.
 mod forms;
-use forms::{filled, KINDS};
+use forms::{filled, walked, KINDS, STEPS};
 use tpt_simd_rng::{Philox4x32X8, Rng8, SplitMix64, Xoshiro256pp, Xoshiro256ppX8};
 
 fn words4(s: [u64; 4]) {
@@ -13,16 +13,23 @@ fn folded(w: [u64; 8]) -> u64 {
     w.iter().fold(0u64, |sum, x| sum.rotate_left(7) ^ x)
 }
 
+/// The state after a jump, the steps that it made, and the state that these led to.
+fn jump(rng: &mut Xoshiro256pp, jump: fn(&mut Xoshiro256pp)) {
+    let led_to = walked(rng);
+    jump(rng);
+    words4(rng.state());
+    println!("{STEPS:016x}");
+    words4(led_to);
+}
+
 fn scalar(seed: u64) {
     let mut rng = Xoshiro256pp::from_seed(seed);
     words4(rng.state());
     for _ in 0..3 {
         println!("{:016x}", rng.next_u64());
     }
-    rng.jump();
-    words4(rng.state());
-    rng.long_jump();
-    words4(rng.state());
+    jump(&mut rng, Xoshiro256pp::jump);
+    jump(&mut rng, Xoshiro256pp::long_jump);
 }
 
 fn lane_draws(rng: &mut Xoshiro256ppX8, n: u32) {

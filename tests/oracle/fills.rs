@@ -1,11 +1,12 @@
 //! Our engines and their fills, linked as static libraries, against the Rust's: the same calls on both sides, and after each of them the
 //! same bits in the lent buffer and around it, the same words handed out, and the same generator. The Rust counts neither draws nor jumps
-//! nor draws left, and refuses nothing: those numbers are the customers'. The argument is how many lists of mixed calls each engine gets.
+//! nor steps nor draws left, and refuses nothing: those numbers are the customers'. The argument is how many lists of mixed calls each
+//! engine gets, and how many random states are jumped from.
 mod common;
 mod forms;
 use common::{Count, Random};
-use forms::{draws_left, kind, Kind, KINDS};
-use tpt_simd_rng::{Philox4x32X8, Rng8, Xoshiro256ppX8};
+use forms::{draws_left, kind, walked, Kind, KINDS, STEPS};
+use tpt_simd_rng::{Philox4x32X8, Rng8, Xoshiro256pp, Xoshiro256ppX8};
 
 /// An element from any bits, and its bytes.
 trait Element: Copy {
@@ -146,6 +147,8 @@ macro_rules! ours {
 
 type Rows = [[u64; 8]; 4];
 extern "C" {
+    fn oracle_xoshiro_jump(s: &mut [u64; 4], walked: &mut [u64; 4]) -> u64;
+    fn oracle_xoshiro_long_jump(s: &mut [u64; 4], walked: &mut [u64; 4]) -> u64;
     fn oracle_xoshiro_from_seed_block(s: &mut Rows, seed: u64, block: u64) -> u64;
     fn oracle_xoshiro_jump_blocks(s: &mut Rows, n: u64) -> u64;
     fn oracle_xoshiro_next_u64x8(s: &mut Rows, words: &mut [u64; 8]);
@@ -378,6 +381,37 @@ impl Engine for Philox {
 
 // ---- the runs
 
+/// A jump and a long jump from a state: the Rust's state after it, the steps, and the Rust's state after so many.
+fn both_jumps(s: [u64; 4], count: &mut Count) {
+    let (mut jumped, mut led_to) = (s, [7; 4]);
+    let steps = unsafe { oracle_xoshiro_jump(&mut jumped, &mut led_to) };
+    let (mut long, mut long_led_to) = (s, [7; 4]);
+    let long_steps = unsafe { oracle_xoshiro_long_jump(&mut long, &mut long_led_to) };
+    let start = Xoshiro256pp::from_state(s);
+    let (mut rust, mut rust_long) = (start.clone(), start.clone());
+    rust.jump();
+    rust_long.long_jump();
+    count.others += 2;
+    count.same(&format!("jump from {s:x?}"), (jumped, steps, led_to), (rust.state(), STEPS, walked(&start)));
+    count.same(&format!("long_jump from {s:x?}"), (long, long_steps, long_led_to), (rust_long.state(), STEPS, walked(&start)));
+}
+
+/// Every state of one bit, every state of words that are 0, 1, 2^63 or 2^64 - 1 (but for four zero words), and random ones.
+fn jumps(states: u64, random: &mut Random) -> u64 {
+    let mut count = Count::default();
+    for k in 0..256 {
+        both_jumps(std::array::from_fn(|i| if k / 64 == i { 1 << (k % 64) } else { 0 }), &mut count);
+    }
+    let words = [0, 1, 1 << 63, u64::MAX];
+    for k in 1..256usize {
+        both_jumps(std::array::from_fn(|i| words[k >> (2 * i) & 3]), &mut count);
+    }
+    for _ in 0..states {
+        both_jumps(std::array::from_fn(|_| random.next()), &mut count);
+    }
+    count.report("xoshiro jump and long_jump of one stream")
+}
+
 /// Our fills draw up to 64 times ahead, which makes 512 elements of some kinds and 1024 of others: every length to somewhat more, and
 /// lengths about multiples of these.
 fn lengths() -> impl Iterator<Item = usize> {
@@ -460,6 +494,6 @@ fn run<E: Engine>(lists: u64, random: &mut Random) -> u64 {
 fn main() {
     let lists = std::env::args().nth(1).and_then(|n| n.parse().ok()).expect("how many lists of mixed calls an engine");
     let random = &mut Random(20_260_102);
-    let differences = run::<Xoshiro>(lists, random) + run::<Philox>(lists, random);
+    let differences = jumps(lists, random) + run::<Xoshiro>(lists, random) + run::<Philox>(lists, random);
     std::process::exit(i32::from(differences != 0));
 }

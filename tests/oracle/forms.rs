@@ -1,7 +1,7 @@
 //! What the C library and the engines should answer, from the Rust: its generators laid out as the scope document's saved forms, and its
-//! fills as bytes. The Rust counts no draws, made or left: those numbers are the customers'.
+//! fills as bytes. The Rust counts no draws, made or left, and no steps of a jump: those numbers are the customers'.
 #![allow(dead_code)] // each program uses a part of it
-use tpt_simd_rng::{Philox4x32X8, Rng8, Xoshiro256ppX8};
+use tpt_simd_rng::{Philox4x32X8, Rng8, Xoshiro256pp, Xoshiro256ppX8};
 
 /// A row of the table of kinds: an element has `width` bytes, and a group of `places` elements takes `draws` draws.
 pub struct Kind {
@@ -27,6 +27,18 @@ impl Kind {
 
 pub fn kind(number: u64) -> Option<&'static Kind> {
     KINDS.iter().find(|kind| kind.number == number)
+}
+
+/// The steps that a jump makes, and a long jump too.
+pub const STEPS: u64 = 253;
+
+/// The state that they lead to: the Rust's after so many.
+pub fn walked(rng: &Xoshiro256pp) -> [u64; 4] {
+    let mut rng = rng.clone();
+    for _ in 0..STEPS {
+        rng.next_u64();
+    }
+    rng.state()
 }
 
 fn bytes<T: Copy + Default, const W: usize>(n: usize, fill: impl FnOnce(&mut [T]), le: impl Fn(T) -> [u8; W]) -> Vec<u8> {

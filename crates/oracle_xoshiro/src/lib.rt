@@ -1,5 +1,6 @@
-// The eight xoshiro256++ lanes and their fills for a caller in C: a static library that tests/oracle links beside the Rust. `s` is the
-// generator's four rows; each call leaves in it the generator after the call.
+// The jumps of a xoshiro256++ stream, and the eight lanes and their fills, for a caller in C: a static library that tests/oracle links
+// beside the Rust. `s` is the generator's four words, or four rows; each call leaves in it the generator after the call.
+use xoshiro::scalar::Xoshiro256pp;
 use xoshiro::x8::Xoshiro256ppX8;
 use xoshiro_fills::bytes;
 use xoshiro_fills::typed;
@@ -7,8 +8,45 @@ ghost use mathlib.Core.Path.{_≡_};
 ghost use Rattle.fills.specs.Fill.{Filled};
 ghost use Rattle.fills.specs.FillBytes.{FilledBytes};
 ghost use Rattle.fills.specs.Kinds.{u64s, u32s, f32s, f64s, normalF32s, normalF64s};
+ghost use Rattle.xoshiro.specs.scalar.Xoshiro256pp.{jumpPoly, longJumpPoly};
+ghost use Rattle.xoshiro.specs.scalar.Calls.{jumpedBy};
 ghost use Rattle.xoshiro.specs.x8.Calls.{drawn, placed, movedBlocks, engine};
 ghost use Rattle.xoshiro.specs.x8.Lanes.{ofRows};
+
+// The two jumps answer their steps, and leave in `walked` the state that these led to.
+#[no_mangle]
+pub extern "C" fn oracle_xoshiro_jump(s: &mut [u64; 4], walked: &mut [u64; 4]) -> u64
+    ensures { λ r. ⌜ record { rng = record { s = now (s .exit) }; steps = r; walked = record { s = now (walked .exit) } } ≡
+        jumpedBy jumpPoly (record { s = now (s .entry) }) ⌝ }
+{
+    let now = *s;
+    let g = Xoshiro256pp { s: now };
+    let j = g.jump();
+    let rng = j.rng;
+    let after = rng.s;
+    *s = after;
+    let rng = j.walked;
+    let at = rng.s;
+    *walked = at;
+    j.steps
+}
+
+#[no_mangle]
+pub extern "C" fn oracle_xoshiro_long_jump(s: &mut [u64; 4], walked: &mut [u64; 4]) -> u64
+    ensures { λ r. ⌜ record { rng = record { s = now (s .exit) }; steps = r; walked = record { s = now (walked .exit) } } ≡
+        jumpedBy longJumpPoly (record { s = now (s .entry) }) ⌝ }
+{
+    let now = *s;
+    let g = Xoshiro256pp { s: now };
+    let j = g.long_jump();
+    let rng = j.rng;
+    let after = rng.s;
+    *s = after;
+    let rng = j.walked;
+    let at = rng.s;
+    *walked = at;
+    j.steps
+}
 
 // Answers the jumps.
 #[no_mangle]

@@ -5,6 +5,7 @@ mod filled;
 use libc::STDOUT_FILENO;
 use philox::block;
 use philox::x8::Philox4x32X8;
+use xoshiro::scalar::Jump;
 use xoshiro::scalar::Xoshiro256pp;
 use xoshiro::splitmix64::SplitMix64;
 use xoshiro::x8::Xoshiro256ppX8;
@@ -192,7 +193,14 @@ fn refused_fill(kind: u64, out: &mut [u8]) {
 }
 
 // ---- the Rust's answers
-// The states of a seed: as seeded, after three draws, after a jump and after a long jump.
+// The state after a jump, the steps that it made, and the state that these led to.
+fn jumped(j: Jump) {
+    words4(j.rng.state());
+    hex(j.steps);
+    words4(j.walked.state());
+}
+
+// The states of a seed: as seeded, after three draws, after a jump and after a long jump, both with their steps.
 fn scalar(seed: u64) {
     let mut rng = Xoshiro256pp::from_seed(seed);
     words4(rng.state());
@@ -202,10 +210,10 @@ fn scalar(seed: u64) {
         let next = d.rng;
         rng = next;
     }
-    let jumped = rng.jump();
-    words4(jumped.state());
-    let long = jumped.long_jump();
-    words4(long.state());
+    let short = rng.jump();
+    jumped(short);
+    let long = short.rng.long_jump();
+    jumped(long);
 }
 
 // Draws of a generator, eight words each in one line.

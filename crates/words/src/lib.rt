@@ -52,7 +52,7 @@ pub fn product(a: u32, b: u32) -> u64
     (a as u64) * (b as u64)
 }
 
-// The places from `at` on that a slice of length `len` has, at most `most`.
+// What there is from `at` on of `len`, places of a slice or bits, at most `most`.
 pub fn room(len: usize, at: usize, most: usize) -> usize
     ensures { λ r. ⌜ r ≡ min (len - at) most ⌝ }
 {

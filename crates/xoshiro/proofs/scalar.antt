@@ -1,4 +1,5 @@
 pub mod Linear
+pub mod Bits
 pub mod Jumping
 pub mod Seeding
 pub mod Theorems

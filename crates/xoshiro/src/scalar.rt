@@ -1,9 +1,10 @@
 // Scalar xoshiro256++ (Xoshiro256pp of the Rust's xoshiro.rs).
 use crate::splitmix64::SplitMix64;
+ghost use mathlib.Core.List.{[], _∷_};
 ghost use mathlib.Core.Path.{_≡_};
-ghost use Prim.Native.Nat.{_/_, _%_, _^_};
+ghost use Prim.Native.Nat.{_/_, _%_, _^_, _<_};
 ghost use Rattle.base.specs.Quad.{quadOf, listOf};
-ghost use Rattle.xoshiro.specs.scalar.Xoshiro256pp.{step, plus, jumped, allZero, jumpPoly, longJumpPoly};
+ghost use Rattle.xoshiro.specs.scalar.Xoshiro256pp.{step, plus, highestBelow, highestOf, allZero, jumpPoly, longJumpPoly};
 ghost use Rattle.xoshiro.specs.scalar.Calls.{checked, seededBy, drawn, jumpedBy, jumpsMade};
 
 // The jump polynomials, word 0 first.
@@ -38,6 +39,13 @@ pub struct Answer {
     pub rng: Xoshiro256pp,
 }
 
+// The generator after a jump; and the steps that the jump made, and the generator that these led to.
+pub struct Jump {
+    pub rng: Xoshiro256pp,
+    pub steps: u64,
+    pub walked: Xoshiro256pp,
+}
+
 // The state after one step.
 fn stepped(s: [u64; 4]) -> [u64; 4]
     ensures { λ r. ⌜ r ≡ listOf (step (quadOf s)) ⌝ }
@@ -63,21 +71,51 @@ pub fn is_zero(s: [u64; 4]) -> bool
 }
 
 // Bit `b % 64` of a word.
-fn bit(word: u64, b: u32) -> u64
+fn bit(word: u64, b: usize) -> u64
     ensures { λ r. ⌜ r ≡ word / 2 ^ (b % 64) % 2 ⌝ }
 {
     (word >> (b % 64)) & 1
 }
 
-// The sum of the states at the set bits of `poly`, word 0 first, bit 0 of each word first.
-fn apply_jump(s: [u64; 4], poly: [u64; 4]) -> [u64; 4]
-    ensures { λ r. ⌜ r ≡ listOf (jumped poly (quadOf s)) ⌝ }
+// The place of the highest set bit of a word; 0 where no bit is set.
+fn highest_bit(word: u64) -> usize
+    ensures { λ r. ⌜ r ≡ highestBelow (word ∷ []) 64 ⌝ }
+{
+    if word == 0 {
+        return 0;
+    }
+    63 - u64::leading_zeros(word) as usize
+}
+
+// The place of the highest set bit of `poly`, counted from bit 0 of word 0; 0 where no bit is set.
+fn highest(poly: [u64; 4]) -> usize
+    ensures { λ r. ⌜ (r ≡ highestOf poly) × (r < 256) ⌝ }
+{
+    let mut i: usize = 4;
+    while 0 < i {
+        i -= 1;
+        let word = poly[i];
+        let b = highest_bit(word);
+        if bit(word, b) != 0 {
+            return 64 * i + b;
+        }
+    }
+    0
+}
+
+// The sum of the states at the set bits of `poly`, word 0 first, bit 0 of each word first; a step after each bit below `top`, the highest
+// set one. There the walk ends: no later state is added to the sum, which becomes the state.
+fn apply_jump(rng: Xoshiro256pp, poly: [u64; 4], top: usize) -> Jump
+    requires { ⌜ (top ≡ highestOf poly) × (top < 256) ⌝ }
+    ensures { λ r. ⌜ r ≡ jumpedBy poly rng ⌝ }
 {
     let mut acc = [0u64; 4];
-    let mut at = s;
-    for i in 0..4 {
+    let mut at = rng.s;
+    for i in 0..top / 64 + 1 {
         let word = poly[i];
-        for b in 0..64 {
+        // the bits of this word below the highest set one
+        let below = words::room(top, 64 * i, 64);
+        for b in 0..below {
             if bit(word, b) != 0 {
                 let sum = xored(acc, at);
                 acc = sum;
@@ -86,7 +124,15 @@ fn apply_jump(s: [u64; 4], poly: [u64; 4]) -> [u64; 4]
             at = next;
         }
     }
-    acc
+    if bit(poly[top / 64], top) != 0 {
+        let all = xored(acc, at);
+        acc = all;
+    }
+    Jump {
+        rng: Xoshiro256pp { s: acc },
+        steps: top as u64,
+        walked: Xoshiro256pp { s: at },
+    }
 }
 
 impl Xoshiro256pp {
@@ -142,24 +188,20 @@ impl Xoshiro256pp {
         }
     }
 
-    // The sum of the states that the bits of JUMP select (the authors' 2^128 steps).
-    pub fn jump(self) -> Self
+    // The sum of the states that the bits of JUMP select (the authors' 2^128 steps); and how far the walk over these went.
+    pub fn jump(self) -> Jump
         ensures { λ r. ⌜ r ≡ jumpedBy jumpPoly self ⌝ }
     {
-        let now = self.s;
         let poly = JUMP;
-        let s = apply_jump(now, poly);
-        Self { s }
+        apply_jump(self, poly, highest(poly))
     }
 
     // The same with LONG_JUMP (the authors' 2^192 steps).
-    pub fn long_jump(self) -> Self
+    pub fn long_jump(self) -> Jump
         ensures { λ r. ⌜ r ≡ jumpedBy longJumpPoly self ⌝ }
     {
-        let now = self.s;
         let poly = LONG_JUMP;
-        let s = apply_jump(now, poly);
-        Self { s }
+        apply_jump(self, poly, highest(poly))
     }
 
     // `n` jumps, one after another.
@@ -169,7 +211,7 @@ impl Xoshiro256pp {
         let mut rng = self;
         for _ in 0..n {
             let next = rng.jump();
-            rng = next;
+            rng = next.rng;
         }
         rng
     }

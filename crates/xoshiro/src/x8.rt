@@ -108,7 +108,7 @@ impl Xoshiro256ppX8 {
         let mut lanes = [at; 8];
         for i in 0..7 {
             let next = at.jump();
-            at = next;
+            at = next.rng;
             lanes[i + 1] = at;
         }
         let rng = of_lanes(lanes);

@@ -3,10 +3,11 @@ use mathlib.Core.List.{List, [], _∷_}
 use mathlib.Core.Bool.{cond}
 use Prim.Native.Nat.{ℕ}
 use Rattle.base.specs.Quad.{quadOf, listOf}
-use Rattle.xoshiro.specs.scalar.Xoshiro256pp.{State, output, step, jumped, jumps, allZero, seeded}
+use Rattle.xoshiro.specs.scalar.Xoshiro256pp.{State, output, step, steps, jumped, highestOf, jumps, allZero, seeded}
 use Rattle.xoshiro.specs.declared.scalar.Xoshiro256pp.{Xoshiro256pp}
 use Rattle.xoshiro.specs.declared.scalar.Draw.{Draw}
 use Rattle.xoshiro.specs.declared.scalar.Answer.{Answer}
+use Rattle.xoshiro.specs.declared.scalar.Jump.{Jump}
 
 -- a generator's state, and back
 abbrev pub stateOf : Xoshiro256pp → State
@@ -36,9 +37,14 @@ seededBy seed = generator (seeded seed)
 unfoldable pub drawn : Xoshiro256pp → Draw
 drawn g = record { word = output (stateOf g); rng = generator (step (stateOf g)) }
 
--- jump and long_jump, by their polynomials
-abbrev pub jumpedBy : List ℕ → Xoshiro256pp → Xoshiro256pp
-jumpedBy poly g = generator (jumped poly (stateOf g))
+-- jump and long_jump, by their polynomials: as many steps are made as there are bits below the highest set one
+unfoldable pub jumpedBy : List ℕ → Xoshiro256pp → Jump
+jumpedBy poly g =
+    record {
+      rng = generator (jumped poly (stateOf g));
+      steps = highestOf poly;
+      walked = generator (steps (highestOf poly) (stateOf g));
+    }
 
 abbrev pub jumpsMade : ℕ → Xoshiro256pp → Xoshiro256pp
 jumpsMade n g = generator (jumps n (stateOf g))

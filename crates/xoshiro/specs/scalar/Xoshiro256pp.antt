@@ -53,6 +53,15 @@ summed poly (suc k) s = plus (summed poly k s) (times (bitOf poly k) (steps k s)
 unfoldable pub jumped : List ℕ → State → State
 jumped poly s = summed poly 256 s
 
+-- the place of the highest set bit of the first k, counted from bit 0 of word 0; 0 where none of them is set
+unfoldable pub highestBelow : List ℕ → ℕ → ℕ
+highestBelow poly zero = 0
+highestBelow poly (suc k) = cond (eqb (bitOf poly k) 0) (highestBelow poly k) k
+
+-- the highest of all 256: no state after it is added to the sum
+unfoldable pub highestOf : List ℕ → ℕ
+highestOf poly = highestBelow poly 256
+
 abbrev pub jumpPoly : List ℕ
 jumpPoly = 0x180e_c6d3_3cfd_0aba ∷ 0xd5a6_1266_f0c9_392c ∷ 0xa958_2618_e03f_c9aa ∷ 0x39ab_dc45_29b1_661c ∷ []
 

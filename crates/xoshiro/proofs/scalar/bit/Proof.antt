@@ -8,4 +8,4 @@ returns : tie.Need-returns
 returns c = and-mask _ 1
 
 pub bit-spec : {M : Type 1} → statement M
-bit-spec = tie.close (tie.spec (λ c. search needs) (λ c. search needs) returns)
+bit-spec = tie.close (tie.spec (λ c. search needs) returns)

@@ -21,7 +21,9 @@ loop-holds c =
     (omega arith, jumps-none _ long)
 
 loop-again : tie.Need-loop-again Inv-loop μ-loop
-loop-again c = (omega arith, jumps-more _ (c .before .before .before .args .self) (c .before .before .loop .inv .1) (c .jump .ensures))
+loop-again c =
+    let d = c .before .before .before in
+    (omega arith, jumps-more _ (d .before .args .self) (d .loop .inv .1) (c .before .jump .ensures))
 
 returns : tie.Need-returns Inv-loop μ-loop
 returns c =

@@ -1,13 +1,10 @@
 -- `xoshiro::scalar::Xoshiro256pp::long_jump` meets its contract.
-use mathlib.Core.List.{List}
-use mathlib.Core.Path.{ap}
-use Prim.Native.Nat.{ℕ}
 use borrow.Author.Needs.{needs}
 use Rattle.xoshiro.proofs.scalar.Xoshiro256pp.long_jump.Statement.{statement}
 use Rattle.xoshiro.proofs.scalar.Xoshiro256pp.long_jump.Tie as tie
 
 returns : tie.Need-returns
-returns c = ap (λ (l : List ℕ). record { s = l }) (c .apply-jump .ensures)
+returns c = c .apply-jump .ensures
 
 pub long-jump-spec : {M : Type 1} → statement M
-long-jump-spec = tie.close (tie.spec (λ c κs. search needs) returns)
+long-jump-spec = tie.close (tie.spec (λ c κs. search needs) (λ c κs. search needs) returns)

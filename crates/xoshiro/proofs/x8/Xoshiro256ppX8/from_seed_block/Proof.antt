@@ -28,8 +28,8 @@ loop-holds c =
 
 loop-again : tie.Need-loop-again Inv-loop μ-loop
 loop-again c =
-    let d = c .before .before in
-    let on = jumps-more _ (d .before .jumps .result) (d .loop .inv .1) (c .jump .ensures) in
+    let d = c .before .before .before in
+    let on = jumps-more _ (d .before .jumps .result) (d .loop .inv .1) (c .before .jump .ensures) in
     (omega arith, on, tabled-more (d .loop .inv .2) (omega arith) on)
 
 returns : tie.Need-returns Inv-loop μ-loop
