@@ -68,6 +68,32 @@ def jumped(s):
     return total
 
 
+def as_number(s):
+    return sum(word << 64 * i for i, word in enumerate(s))
+
+
+def mapped(images, x):
+    """The sum of the images of the bits of x: a linear map over GF(2), by its images of the 256 states of one bit."""
+    total = 0
+    while x:
+        total ^= images[x.bit_length() - 1]
+        x ^= 1 << x.bit_length() - 1
+    return total
+
+
+def powers_of_step(count):
+    """2 ** k steps, for k below count: a step, squared again and again, by no polynomial."""
+    images = []
+    for bit in range(256):
+        s = [(1 << bit) >> 64 * i & M64 for i in range(4)]
+        step(s)
+        images.append(as_number(s))
+    powers = [images]
+    while len(powers) < count:
+        powers.append([mapped(powers[-1], x) for x in powers[-1]])
+    return powers
+
+
 def seeded(seed):
     """Four words of SplitMix64."""
     words = []
@@ -353,6 +379,29 @@ def starts(host):
             expect(f"philox_new, form length {length}", host.philox_new(1, 2, noise), (-1, UNTOUCHED, noise))
 
 
+def distances(host):
+    """After fills and moves lane i is the seed's stream after (J + i) * 2 ** 128 + D steps: K14. The powers reach J + i = 255."""
+    powers = powers_of_step(136)
+    for seed in (0, 42, M64, chance.getrandbits(64)):
+        block = chance.randrange(8)
+        j, d, form = 8 * block, 0, host.xoshiro_new(seed, block, bytes(256))[2]
+        for _ in range(6):
+            n, kind, groups = chance.randrange(4), chance.choice((1, 2, 3, 4, 5, 6)), chance.randrange(50)
+            width, places, draws = KINDS[kind]
+            form = host.fill(Xoshiro, form, kind, bytes(groups * places * width))[1]
+            form = host.jump_blocks(form, n)[2]
+            j, d = j + 8 * n, d + groups * draws
+            lanes = []
+            for i in range(8):
+                state, steps = as_number(seeded(seed)), (j + i) * 2**128 + d
+                for k, power in enumerate(powers):
+                    if steps >> k & 1:
+                        state = mapped(power, state)
+                lanes.append([state >> 64 * row & M64 for row in range(4)])
+            expected = struct.pack("<32Q", *(lane[row] for row in range(4) for lane in lanes))
+            expect(f"the form of seed {seed} where J is {j} and D is {d}", form, expected)
+
+
 def good_form(engine):
     form = chance.randbytes(engine.length)
     if engine is Philox:
@@ -464,6 +513,7 @@ def main(library, expected):
     host = Host(library)
     published()
     starts(host)
+    distances(host)
     for engine in Xoshiro, Philox:
         lists(host, engine, 60)
         refusals(host, engine)

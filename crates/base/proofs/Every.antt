@@ -11,6 +11,7 @@ use lib.Ieee.Fits.{and-i, and-l, and-r}
 use lib.ListN.{length, getD, take}
 use lib.Seq.{take-suc, take-all}
 use Rattle.base.specs.Every.{every}
+use Rattle.base.specs.Table.{table}
 
 and-true : (a : Bool) → a && true ≡ a
 and-true true = refl
@@ -60,3 +61,10 @@ module _ {A : Type 0} (p : A → Bool) (d : A) where
   pub each-every : (xs : List A) → ((i : ℕ) → i < length xs → T (p (getD xs i d))) → T (every p xs)
   each-every [] h = tt
   each-every (x ∷ xs) h = and-i (p x) (every p xs) (h 0 (zero-lt-suc (length xs))) (each-every xs (λ i l. h (suc i) (suc-le-suc l)))
+
+pub every-table : {A : Type 0} (p : A → Bool) (n : ℕ) (f : ℕ → A) → T (every p (table n f)) → (i : ℕ) → i < n → T (p (f i))
+unfolding table
+every-table p zero f h i l = absurd (not-suc-le-zero l)
+every-table p (suc n) f h zero l = and-l (p (f 0)) (every p (table n (λ j. f (suc j)))) h
+every-table p (suc n) f h (suc i) l =
+    every-table p n (λ j. f (suc j)) (and-r (p (f 0)) (every p (table n (λ j. f (suc j)))) h) i (le-of-suc-le-suc l)

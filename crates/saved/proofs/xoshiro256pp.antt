@@ -1,4 +1,3 @@
 pub mod Form
-pub mod Widths
-pub mod Nonzero
+pub mod Sound
 pub mod Theorems

@@ -3,13 +3,13 @@ use mathlib.Core.Path.{_≡_, refl, sym, ap, ap₂, _∙_, subst}
 use Prim.Native.Nat.{ℕ, zero, suc, _+_, _-_, _*_, _/_, _%_, _^_, _≤_, _<_}
 use native.Mathlib.Nat.{mod-lt, mod-eq-of-lt, mul-mod-left, mul-one, div-one, mod-one, add-zero, add-mul-mod-self-right, mod-add-mod, div-add-mod', add-assoc, add-comm, add-left-comm, mul-assoc, mul-comm, mul-left-comm, mul-add, add-mul, lt-of-le-of-lt, le-of-lt, mul-le-mul-left, mul-lt-mul-of-pos-right}
 use native.Mathlib.Omega.{arith}
-use lib.Pow.{pow-pos, mod-pow-add, shl-shr, shr-lt, split}
+use lib.Pow.{pow-pos, mod-pow-add, shl-shr, shr-lt, split, high, low}
 use lib.Bits.{bitXor, bitOr, bitAnd, or-shifted, or-self, and-mask, xor-shr, xor-mod, xor-block}
 use Rattle.base.proofs.Xor.{xor-times}
 use Rattle.words.specs.Words.{shl, rotl}
 
 -- ---- a rotation by two shifts
-shl-mod : (x j k : ℕ) → x * 2 ^ k % 2 ^ (j + k) ≡ x % 2 ^ j * 2 ^ k
+pub shl-mod : (x j k : ℕ) → x * 2 ^ k % 2 ^ (j + k) ≡ x % 2 ^ j * 2 ^ k
 shl-mod x j k =
     mod-pow-add (x * 2 ^ k) j k
     ∙ ap₂ (λ (a b : ℕ). a % 2 ^ j * 2 ^ k + b) (shl-shr x k) (mul-mod-left x (2 ^ k))
@@ -51,6 +51,21 @@ rotl-xor k a b =
     ap₂ (λ (x y : ℕ). x * 2 ^ k + y % 2 ^ k) (xor-mod a b j) (xor-shr a b j)
     ∙ ap (λ (y : ℕ). bitXor (a % 2 ^ j) (b % 2 ^ j) * 2 ^ k + y) (xor-mod (a / 2 ^ j) (b / 2 ^ j) k)
     ∙ sym (xor-block k (a % 2 ^ j) (b % 2 ^ j) (a / 2 ^ j % 2 ^ k) (b / 2 ^ j % 2 ^ k) (mod-lt (a / 2 ^ j) (pow-pos k)) (mod-lt (b / 2 ^ j) (pow-pos k)))
+
+-- ---- a rotation by k, and then by what is left of 64, is none
+pub rotl-rotl : (j k x : ℕ) → j + k ≡ 64 → x < 2 ^ 64 → rotl j (rotl k x) ≡ x
+unfolding rotl
+rotl-rotl j k x e h =
+    let a : 64 - k ≡ j = omega arith in
+    let b : 64 - j ≡ k = omega arith in
+    let hi : x / 2 ^ j < 2 ^ k = shr-lt k j (subst (λ (n : ℕ). x < 2 ^ n) (sym e ∙ add-comm j k) h) in
+    let y : ℕ = x % 2 ^ j * 2 ^ k + x / 2 ^ j in
+    let q : rotl k x ≡ y = ap (λ (n : ℕ). x % 2 ^ n * 2 ^ k + x / 2 ^ n % 2 ^ k) a ∙ ap (λ (z : ℕ). x % 2 ^ j * 2 ^ k + z) (mod-eq-of-lt hi) in
+    ap (rotl j) q
+    ∙ ap (λ (n : ℕ). y % 2 ^ n * 2 ^ j + y / 2 ^ n % 2 ^ j) b
+    ∙ ap₂ (λ (u v : ℕ). u * 2 ^ j + v % 2 ^ j) (low (x % 2 ^ j) k hi) (high (x % 2 ^ j) k hi)
+    ∙ ap (λ (z : ℕ). x / 2 ^ j * 2 ^ j + z) (mod-eq-of-lt (mod-lt x (pow-pos j)))
+    ∙ split x j
 
 -- ---- a product modulo P * P, by halves
 halves : (P a₀ a₁ b₀ b₁ : ℕ) → (a₁ * P + a₀) * (b₁ * P + b₀) ≡ (a₁ * b₀ + a₀ * b₁) * P + a₀ * b₀ + a₁ * b₁ * (P * P)

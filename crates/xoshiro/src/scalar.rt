@@ -188,7 +188,8 @@ impl Xoshiro256pp {
         }
     }
 
-    // The sum of the states that the bits of JUMP select (the authors' 2^128 steps); and how far the walk over these went.
+    // The sum of the states that the bits of JUMP select, which is the state after 2^128 steps (the crate xoshiro_distance); and how far the
+    // walk over these went.
     pub fn jump(self) -> Jump
         ensures { λ r. ⌜ r ≡ jumpedBy jumpPoly self ⌝ }
     {
@@ -196,7 +197,7 @@ impl Xoshiro256pp {
         apply_jump(self, poly, highest(poly))
     }
 
-    // The same with LONG_JUMP (the authors' 2^192 steps).
+    // The same with LONG_JUMP: the state after 2^192 steps.
     pub fn long_jump(self) -> Jump
         ensures { λ r. ⌜ r ≡ jumpedBy longJumpPoly self ⌝ }
     {

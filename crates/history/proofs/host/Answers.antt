@@ -8,19 +8,14 @@ use Rattle.base.specs.Engine.{wordsFrom}
 use Rattle.base.specs.Refused.{unless}
 use Rattle.base.specs.Iterate.{iterate}
 use Rattle.fills.specs.FillBytes.{refusalOf, bytesWritten, bytesDraws}
-use Rattle.girderpeach.specs.Host.{answerOf, firstOf, Called, Forms, fillRefusal, HostFill}
+use Rattle.girderpeach.specs.Host.{answerOf, firstOf, Called, Forms, HostFill}
 use Rattle.history.specs.host.Answers.{ifAccepted, answered, RightAnswer}
 
 -- ---- any call
--- what the refusal picks, the answer picks; what is picked where nothing is refused may be told otherwise there
-picked : {A : Type 0} (r v : ℕ) {answer : ℤ} → answer ≡ answerOf r v → {a a′ : A} → (r ≡ 0 → a ≡ a′) → (b : A) → unless r a b ≡ ifAccepted answer a′ b
-picked zero v e {a′ = a′} h b = h refl ∙ ap (λ (x : ℤ). ifAccepted x a′ b) (sym e)
-picked (suc r) v e {a′ = a′} h b = ap (λ (x : ℤ). ifAccepted x a′ b) (sym e)
-
--- what an accepted call left, where a refused one left another value
-pub written : {A : Type 0} (answer : ℤ) (a b c : A) {x : A} → x ≡ ifAccepted answer a b → ifAccepted answer x c ≡ ifAccepted answer a c
-written (pos n) a b c e = e
-written (negsuc n) a b c e = refl
+-- what the refusal picks, the answer picks
+picked : {A : Type 0} (r v : ℕ) {answer : ℤ} → answer ≡ answerOf r v → (a b : A) → unless r a b ≡ ifAccepted answer a b
+picked zero v e a b = ap (λ (x : ℤ). ifAccepted x a b) (sym e)
+picked (suc r) v e a b = ap (λ (x : ℤ). ifAccepted x a b) (sym e)
 
 -- what an answer reports
 reports : (r v : ℕ) → answered (answerOf r v) ≡ unless r v 0
@@ -28,45 +23,37 @@ reports zero v = refl
 reports (suc r) v = refl
 
 module _ {r v : ℕ} {new form form′ : List ℕ} {answer : ℤ} (c : Called r v new form form′ answer) where
-  pub chosen : {A : Type 0} {a a′ : A} → (r ≡ 0 → a ≡ a′) → (b : A) → unless r a b ≡ ifAccepted answer a′ b
+  pub chosen : {A : Type 0} (a b : A) → unless r a b ≡ ifAccepted answer a b
   chosen = picked r v (c .answers)
 
-  pub saved : {new′ : List ℕ} → (r ≡ 0 → new ≡ new′) → form′ ≡ ifAccepted answer new′ form
-  saved h = c .saves ∙ chosen h form
+  pub saved : form′ ≡ ifAccepted answer new form
+  saved = c .saves ∙ chosen new form
 
-  pub stays : (n : ℕ) → answer ≡ negsuc n → form′ ≡ form
-  stays n e = saved (λ z. refl) ∙ ap (λ (x : ℤ). ifAccepted x new form) e
+  stays : (n : ℕ) → answer ≡ negsuc n → form′ ≡ form
+  stays n e = saved ∙ ap (λ (x : ℤ). ifAccepted x new form) e
 
   pub counted : answered answer ≡ ifAccepted answer v 0
-  counted = ap answered (c .answers) ∙ reports r v ∙ chosen (λ z. refl) 0
+  counted = ap answered (c .answers) ∙ reports r v ∙ chosen v 0
 
--- ---- a fill, where an accepted form is that of the generator g
-first-none : (a b : ℕ) → firstOf a b ≡ 0 → a ≡ 0
-first-none zero b e = refl
-first-none (suc a) b e = e
-
+-- ---- a fill, where the form is accepted, and is that of the generator g
 module _ {G : Type 0} {H : Forms G} {form : List ℕ} {k : ℕ} {before : List ℕ} {answer : ℤ} {form′ after : List ℕ} (F : HostFill H form k before answer form′ after)
-    {g : G} (read : H .refusal form ≡ 0 → H .read form ≡ g) where
-  accepted : fillRefusal H form k before ≡ 0 → H .read form ≡ g
-  accepted z = read (first-none (H .refusal form) (refusalOf k (length before)) z)
-
+    (ok : H .refusal form ≡ 0) {g : G} (read : H .read form ≡ g) where
   -- it is right, where W m are the words of draw m from g
-  pub right : {r : ℕ} → fillRefusal H form k before ≡ r → (W : ℕ → List ℕ) → ((m : ℕ) → wordsFrom (H .engine) g m ≡ W m)
-      → RightAnswer r W k before after answer form form′
-  right e W same =
+  pub right : (W : ℕ → List ℕ) → ((m : ℕ) → wordsFrom (H .engine) g m ≡ W m) → RightAnswer (refusalOf k (length before)) W k before after answer form form′
+  right W same =
       record {
-        answers = F .called .answers ∙ ap (λ (x : ℕ). answerOf x (bytesDraws k (length before))) e;
+        answers = F .called .answers ∙ ap (λ (r : ℕ). answerOf (firstOf r (refusalOf k (length before))) (bytesDraws k (length before))) ok;
         writes =
             F .writes
-            ∙ chosen (F .called) (λ z. ap (λ (x : G). bytesWritten k (wordsFrom (H .engine) x) (length before)) (accepted z) ∙ (λ i. bytesWritten k (λ m. same m i) (length before))) before;
+            ∙ chosen (F .called) _ before
+            ∙ (λ i. ifAccepted answer (bytesWritten k (λ m. (ap (λ (x : G). wordsFrom (H .engine) x m) read ∙ same m) i) (length before)) before);
         stays = stays (F .called);
       }
 
   -- the draws of an accepted fill are made, and none of a refused one
   pub leaves : form ≡ H .form g → form′ ≡ H .form (iterate (H .engine .next) (ifAccepted answer (bytesDraws k (length before)) 0) g)
   unfolding iterate
-  leaves e =
-      saved (F .called) (λ z. ap (λ (x : G). H .form (iterate (H .engine .next) (bytesDraws k (length before)) x)) (accepted z)) ∙ go answer
+  leaves e = saved (F .called) ∙ ap (λ (x : G). ifAccepted answer (H .form (iterate (H .engine .next) (bytesDraws k (length before)) x)) form) read ∙ go answer
     where
       go : (a : ℤ) → ifAccepted a (H .form (iterate (H .engine .next) (bytesDraws k (length before)) g)) form ≡ H .form (iterate (H .engine .next) (ifAccepted a (bytesDraws k (length before)) 0) g)
       go (pos n) = refl

@@ -10,8 +10,8 @@ use Rattle.base.specs.Refused.{unless}
 use Rattle.base.specs.Iterate.{iterate}
 use Rattle.base.proofs.Iterate.{iterate-keeps}
 use Rattle.base.proofs.Lists.{along}
-use Rattle.fills.specs.FillBytes.{refusalOf, bytesDraws}
-use Rattle.girderpeach.specs.Host.{answerOf, firstOf}
+use Rattle.fills.specs.FillBytes.{bytesDraws}
+use Rattle.girderpeach.specs.Host.{answerOf}
 use Rattle.girderpeach.specs.Philox.{drawsLeft}
 use Rattle.history.specs.philox4x32.History.{Tally, leftAt, start, oneDraw}
 use Rattle.history.proofs.philox4x32.Tallied.{tallied, tallied-start, tallied-words, tallied-draws, tallied-seek, tallied-left}
@@ -50,21 +50,23 @@ read-back {g₀} {t} h =
 
 -- one call: the form that it leaves, that it is right, and that it reports what is counted
 module _ (g₀ : Philox4x32X8) (t : Tally) {form : List ℕ} (h : Held g₀ t form) where
-  read : loaded form .refusal ≡ 0 → loaded form .rng ≡ tallied g₀ t
-  read z = ap (λ (x : Loaded). x .rng) (read-back h)
+  ok : loaded form .refusal ≡ 0
+  ok = ap (λ (x : Loaded). x .refusal) (read-back h)
+
+  read : loaded form .rng ≡ tallied g₀ t
+  read = ap (λ (x : Loaded). x .rng) (read-back h)
 
   stands : (c : Call) → Step form c → Held g₀ (tallyAfter t c) (formIn c)
   stands (fill k before after answer form′) F =
       let n : ℕ = ifAccepted answer (bytesDraws k (length before)) 0 in
-      held (tallied-draws n g₀ t) (iterate-keeps Kept nextOf kept-next n _ (h .kept)) (leaves F read (h .holds))
+      held (tallied-draws n g₀ t) (iterate-keeps Kept nextOf kept-next n _ (h .kept)) (leaves F ok read (h .holds))
   stands (seek n u64 answer form′) C =
       held (tallied-seek g₀ t n u64) (record { words = words-sought _ n u64 (h .kept .words); settles = settled-sought _ n })
       (C .saves ∙ ap (λ (x : Loaded). unless (x .refusal) (formOf (sought (x .rng) n)) form) (read-back h))
 
   is-right : (c : Call) → Step form c → Right g₀ t form c
   is-right (fill k before after answer form′) F =
-      right F read (ap (λ (x : Loaded). firstOf (x .refusal) (refusalOf k (length before))) (read-back h)) _
-      (λ m. ap wordsOf (tallied-draws m g₀ t) ∙ tallied-words g₀ (iterate oneDraw m t))
+      right F ok read _ (λ m. ap wordsOf (tallied-draws m g₀ t) ∙ tallied-words g₀ (iterate oneDraw m t))
   is-right (seek n u64 answer form′) C = C .answers ∙ ap (λ (x : Loaded). answerOf (x .refusal) 0) (read-back h)
 
   counts : {m : ℕ} (c : Call) → Step form c → m ≡ t .d → reportedAfter m c ≡ tallyAfter t c .d
@@ -93,4 +95,4 @@ whole {g₀} {s₀} h r = along r (Whole g₀ s₀) (h, record { draws = refl; f
 
 pub host-adds-up : HostAddsUp
 host-adds-up seed stream a b before s₀ calls n r =
-    whole (held (tallied-start seed stream) (record { words = words-fresh seed stream a b; settles = settled-fresh seed stream }) (saved n (λ z. refl))) r .1
+    whole (held (tallied-start seed stream) (record { words = words-fresh seed stream a b; settles = settled-fresh seed stream }) (saved n)) r .1

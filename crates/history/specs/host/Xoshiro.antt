@@ -2,17 +2,16 @@
 -- demand 3 for a host. A list has its latest call first, so that its tail is what came before its head.
 use mathlib.Core.List.{List}
 use mathlib.Core.Path.{_≡_}
-use Prim.Native.Nat.{ℕ, _+_}
-use lib.IntN.{ℤ, pos, negsuc}
+use Prim.Native.Nat.{ℕ, _+_, _*_, _^_}
+use lib.IntN.{ℤ, pos}
 use lib.ListN.{length}
 use Rattle.base.specs.Lists as lists
 use Rattle.base.specs.Lists.{total, Each}
 use Rattle.fills.specs.FillBytes.{refusalOf, bytesDraws}
-use Rattle.girderpeach.specs.Host.{answerOf, firstOf}
 use Rattle.girderpeach.specs.Xoshiro.{Filled, New, JumpedBlocks}
 use Rattle.xoshiro.specs.scalar.Xoshiro256pp.{State, steps, jumps, seeded}
 use Rattle.history.specs.xoshiro256pp.History.{wordsAt}
-use Rattle.saved.specs.xoshiro256pp.Form.{formOf, loaded}
+use Rattle.saved.specs.xoshiro256pp.Form.{formOf}
 use Rattle.xoshiro.specs.x8.Calls.{blockJumps}
 use Rattle.xoshiro.specs.x8.Lanes.{ofStates}
 use Rattle.xoshiro.specs.declared.x8.Xoshiro256ppX8.{Xoshiro256ppX8}
@@ -69,16 +68,15 @@ J b calls = blockJumps b + total jumpsCounted calls
 abbrev pub standing : State → ℕ → ℕ → Xoshiro256ppX8
 standing s d j = ofStates (λ i. steps d (jumps (j + i) s))
 
--- a move writes its jumps, or is refused and leaves the number and the form as they were
-pub record RightMove (n before after : ℕ) (answer : ℤ) (form form′ : List ℕ) : Type 0 where
-  pub answers : answer ≡ answerOf (loaded form .refusal) 0
-  pub counts : after ≡ ifAccepted answer (blockJumps n) before
-  pub stays : (m : ℕ) → answer ≡ negsuc m → form′ ≡ form
+-- a move is never refused, and writes its jumps
+pub record RightMove (n after : ℕ) (answer : ℤ) : Type 0 where
+  pub answers : answer ≡ pos 0
+  pub counts : after ≡ blockJumps n
 
--- a call on `form` is right, where D and J before it are d and j; draw m of a fill has m more in its D
+-- a call is right, where D and J before it are d and j: only a kind or a length is ever refused. Draw m of a fill has m more in its D
 abbrev pub Right : State → ℕ → ℕ → List ℕ → Call → Type 0
-Right s d j form (fill k before after answer form′) = RightAnswer (firstOf (loaded form .refusal) (refusalOf k (length before))) (λ m. wordsAt s (d + m) j) k before after answer form form′
-Right s d j form (move n before after answer form′) = RightMove n before after answer form form′
+Right s d j form (fill k before after answer form′) = RightAnswer (refusalOf k (length before)) (λ m. wordsAt s (d + m) j) k before after answer form form′
+Right s d j form (move n before after answer form′) = RightMove n after answer
 
 abbrev pub AllRight : ℕ → ℕ → List ℕ → List Call → Type 0
 AllRight seed b s₀ = Each (λ calls c. Right (seeded seed) (D calls) (J b calls) (formAfter s₀ calls) c)
@@ -90,6 +88,8 @@ pub record History (seed b j : ℕ) (s₀ : List ℕ) (calls : List Call) : Type
   pub jumps-total : j + total jumpsReported calls ≡ J b calls
   -- the form is that of the state after J + i jumps of lane i and then D steps
   pub form : formAfter s₀ calls ≡ formOf (standing (seeded seed) (D calls) (J b calls))
+  -- which is the seed's stream in lane i after (J + i) times 2 ^ 128, and D, steps
+  pub distance : formAfter s₀ calls ≡ formOf (ofStates (λ i. steps ((J b calls + i) * 2 ^ 128 + D calls) (seeded seed)))
   -- every call answered and wrote what it should
   pub outputs : AllRight seed b s₀ calls
 

@@ -1,17 +1,23 @@
--- What holds after every list of calls on the generator that `from_seed` or `from_seed_block` returned: demand 3, eight lanes.
+-- What holds after every list of calls on the generator that `from_seed` or `from_seed_block` returned: demand 3, eight lanes. And that the
+-- generators of all constructors, after every list, save and load.
 use mathlib.Core.List.{List}
 use mathlib.Core.Path.{_≡_}
-use Prim.Native.Nat.{ℕ, _+_, _<_}
-use lib.ListN.{length}
+use Prim.Native.Nat.{ℕ, _+_, _*_, _^_, _<_}
+use lib.ListN.{length, getD}
 use Rattle.base.specs.Lists.{total, Each}
 use Rattle.base.specs.Refused.{unless}
 use Rattle.base.specs.Table.{table}
 use Rattle.fills.specs.Fill.{drawsFor}
 use Rattle.fills.specs.FillBytes.{refusalOf, bytesDraws}
 use Rattle.fills.specs.Handed.{RightFill, RightBytes}
+use Rattle.saved.specs.xoshiro256pp.Claims.{Restored}
+use Rattle.saved.specs.xoshiro256pp.Form.{loaded}
+use Rattle.xoshiro.specs.scalar.Calls.{stateOf}
+use Rattle.xoshiro.specs.scalar.Claims.{Words}
 use Rattle.xoshiro.specs.scalar.Xoshiro256pp.{State, output, steps, jumps, seeded}
+use Rattle.xoshiro.specs.declared.scalar.Xoshiro256pp.{Xoshiro256pp}
 use Rattle.xoshiro.specs.x8.Lanes.{laneOf}
-use Rattle.xoshiro.specs.x8.Calls.{blockJumps, placed}
+use Rattle.xoshiro.specs.x8.Calls.{blockJumps, placed, noLane, fromLanes}
 use Rattle.xoshiro.specs.declared.x8.Placed.{Placed}
 use Rattle.xoshiro.specs.declared.x8.Xoshiro256ppX8.{Xoshiro256ppX8}
 use Rattle.history.specs.Draws.{RightDraws}
@@ -80,11 +86,24 @@ pub record History (seed b : ℕ) (p : Placed) (calls : List Call) : Type 0 wher
   pub jumps-total : p .jumps + total jumpsReported calls ≡ J b calls
   -- lane i stands at the seed's state after J + i jumps and then D steps
   pub lanes : (i : ℕ) → i < 8 → laneOf (rngAfter (p .rng) calls) i ≡ steps (D calls) (jumps (J b calls + i) (seeded seed))
+  -- which is the seed's stream after (J + i) times 2 ^ 128, and D, steps
+  pub distance : (i : ℕ) → i < 8 → laneOf (rngAfter (p .rng) calls) i ≡ steps ((J b calls + i) * 2 ^ 128 + D calls) (seeded seed)
   -- every call handed out what it should
   pub outputs : AllRight seed b (p .rng) calls
 
 abbrev pub DrawsAddUp : Type 1
 DrawsAddUp = (seed b : ℕ) (p : Placed) (calls : List Call) → p ≡ placed seed b → Run (p .rng) calls → History seed b p calls
+
+-- ---- every generator from an accepted constructor, after every list of calls, is restored by saving and loading
+pub record Restores : Type 1 where
+  -- from_seed and from_seed_block, which refuse nothing
+  pub from-block : (seed b : ℕ) (calls : List Call) → Run (placed seed b .rng) calls → Restored (rngAfter (placed seed b .rng) calls)
+  -- from_lanes: the lanes are what its type says, eight of four words
+  pub from-lanes : (lanes : List Xoshiro256pp) → length lanes ≡ 8 → ((i : ℕ) → i < 8 → Words (stateOf (getD lanes i noLane)))
+      → fromLanes lanes .refusal ≡ 0 → (calls : List Call) → Run (fromLanes lanes .rng) calls → Restored (rngAfter (fromLanes lanes .rng) calls)
+  -- load: the form is bytes
+  pub from-form : (form : List ℕ) → ((i : ℕ) → getD form i 0 < 256) → loaded form .refusal ≡ 0
+      → (calls : List Call) → Run (loaded form .rng) calls → Restored (rngAfter (loaded form .rng) calls)
 
 -- ---- of the fills made where D is d and J is j, place by place and byte by byte: what the table says of the words from there on
 abbrev pub RowsInLists : Type 0

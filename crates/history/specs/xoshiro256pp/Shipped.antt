@@ -1,12 +1,18 @@
--- The lists are lists of calls of the functions that ship: for each constructor from a seed, and each public function that moves an
--- eight-lane generator or draws from it, what a caller learns from its own contract is its call's step in a list, and it asks nothing.
+-- The lists are lists of calls of the functions that ship: for each constructor, and each public function that moves an eight-lane
+-- generator or draws from it, what a caller learns from its own contract is its call's step in a list, and it asks nothing.
 use mathlib.Core.Path.{_≡_}
 use Prim.Native.Nat.{_/_, min}
 use denote.Ref.{now}
 use lib.ListN.{length}
 use Rattle.fills.specs.Kinds.{u64s, u32s, f32s, f64s, normalF32s, normalF64s}
-use Rattle.xoshiro.specs.x8.Calls.{placed}
+use Rattle.saved.specs.fields.Fields.{sizeOf}
+use Rattle.saved.specs.fields.Saved.{Saved}
+use Rattle.saved.specs.xoshiro256pp.Form.{layout, formOf, loaded}
+use Rattle.saved.proofs.xoshiro256pp.load.Reads as load-reads
+use Rattle.saved.proofs.xoshiro256pp.save.Reads as save-reads
+use Rattle.xoshiro.specs.x8.Calls.{placed, fromLanes}
 use Rattle.xoshiro.proofs.draws.draw_many.Reads as draw-many-reads
+use Rattle.xoshiro.proofs.x8.Xoshiro256ppX8.from_lanes.Reads as from-lanes-reads
 use Rattle.xoshiro.proofs.x8.Xoshiro256ppX8.from_seed.Reads as from-seed-reads
 use Rattle.xoshiro.proofs.x8.Xoshiro256ppX8.from_seed_block.Reads as from-seed-block-reads
 use Rattle.xoshiro.proofs.x8.Xoshiro256ppX8.jump_blocks.Reads as jump-blocks-reads
@@ -23,9 +29,13 @@ use Rattle.history.specs.Contracts.{Says}
 use Rattle.history.specs.xoshiro256pp.Calls.{draw, fill, bytes, move, many, Step}
 
 pub record XoshiroShips : Type 1 where
-  -- the constructors: block 0 of a seed, and any block of it
+  -- the constructors: block 0 of a seed, any block of it, eight lanes, and a form
   pub from-seed : Says from-seed-reads.Asked from-seed-reads.Learnt (λ κs a r e. r ≡ placed (a .0) 0)
   pub from-seed-block : Says from-seed-block-reads.Asked from-seed-block-reads.Learnt (λ κs a r e. r ≡ placed (a .0) (a .1 .0))
+  pub from-lanes : Says from-lanes-reads.Asked from-lanes-reads.Learnt (λ κs a r e. r ≡ fromLanes (a .0))
+  pub load : Says load-reads.Asked load-reads.Learnt (λ κs a r e. r ≡ loaded (now (a .0)))
+  -- the form of a generator: no step
+  pub save : Says save-reads.Asked save-reads.Learnt (λ κs a r e. Saved (sizeOf layout) (formOf (a .0)) (now (a .1 .0)) (now (e .1 .0)) r)
   -- a draw, and a block move
   pub next-u64x8 : Says next-u64x8-reads.Asked next-u64x8-reads.Learnt (λ κs a r e. Step (a .0) (draw r))
   pub jump-blocks : Says jump-blocks-reads.Asked jump-blocks-reads.Learnt (λ κs a r e. Step (a .0) (move (a .1 .0) r))

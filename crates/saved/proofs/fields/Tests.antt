@@ -1,14 +1,20 @@
 -- A test of every element of a table, by the test of each. Assumes nothing.
-use mathlib.Core.Path.{_≡_, refl, ap, ap₂, _∙_}
+use mathlib.Core.Path.{_≡_, refl, sym, ap, ap₂, _∙_, subst}
 use mathlib.Core.Bool.{Bool, true, false, _&&_, and-false, false≢true}
 use Prim.Native.Nat.{ℕ, zero, suc, _<_, suc-le-suc}
 use native.Mathlib.Nat.{le-of-suc-le-suc, not-suc-le-zero, zero-lt-suc}
+use lib.Dec.{T}
 use Rattle.base.specs.Every.{every}
 use Rattle.base.specs.Table.{table}
+use Rattle.base.proofs.Every.{every-table}
 
 pub and-both : (a b : Bool) → a && b ≡ true → (a ≡ true) × (b ≡ true)
 and-both true b e = (refl, e)
 and-both false b e = absurd (false≢true e)
+
+is-true : (b : Bool) → T b → b ≡ true
+is-true true t = refl
+is-true false t = absurd t
 
 module _ {A : Type 0} (p : A → Bool) where
   pub all-pass : (n : ℕ) (f : ℕ → A) → ((i : ℕ) → i < n → p (f i) ≡ true) → every p (table n f) ≡ true
@@ -23,7 +29,4 @@ module _ {A : Type 0} (p : A → Bool) where
   one-fails (suc n) f (suc i) l e = ap (λ (b : Bool). p (f 0) && b) (one-fails n (λ j. f (suc j)) i (le-of-suc-le-suc l) e) ∙ and-false (p (f 0))
 
   pub each-passes : (n : ℕ) (f : ℕ → A) → every p (table n f) ≡ true → (i : ℕ) → i < n → p (f i) ≡ true
-  unfolding table
-  each-passes zero f e i l = absurd (not-suc-le-zero l)
-  each-passes (suc n) f e zero l = and-both (p (f 0)) _ e .0
-  each-passes (suc n) f e (suc i) l = each-passes n (λ j. f (suc j)) (and-both (p (f 0)) _ e .1) i (le-of-suc-le-suc l)
+  each-passes n f e i l = is-true (p (f i)) (every-table p n f (subst T (sym e) tt) i l)

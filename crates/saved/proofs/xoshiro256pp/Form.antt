@@ -10,7 +10,7 @@ use lib.ListN.{length, length-append, getD, take, drop}
 use lib.Pow.{pow-pos}
 use Rattle.base.specs.Bytes.{leBytes, leNat, flat}
 use Rattle.base.specs.Every.{every}
-use Rattle.base.specs.Quad.{rowsOf}
+use Rattle.base.specs.Quad.{column, rowsOf}
 use Rattle.base.specs.Stored.{stored}
 use Rattle.base.specs.Table.{table}
 use Rattle.base.proofs.Bytes.{flat-append, flat-length, length-leBytes}
@@ -115,15 +115,17 @@ of-fields g w =
       s3 = table-getD 8 0 (g .s3) (w .row3) k;
     }
 
-row-below : (l : List ℕ) → ((i : ℕ) → getD l i 0 < 2 ^ 64) → (i : ℕ) → getD (row l) i 0 < 2 ^ 64
-row-below l h = table-below (2 ^ 64) 8 (λ i. getD l i 0) (pow-pos 64) (λ i b. h i)
-
 fits : (g : Xoshiro256ppX8) → Words g → Fits layout (fieldsOf g)
-unfolding table
+unfolding column table
 fits g w =
-    let two = append-below (2 ^ 64) (row (g .s0)) (row (g .s1)) (row-below (g .s0) (w .row0)) (row-below (g .s1) (w .row1)) in
-    let three = append-below (2 ^ 64) (row (g .s0) ++ row (g .s1)) (row (g .s2)) two (row-below (g .s2) (w .row2)) in
-    fits-run 8 (fieldsOf g) (append-below (2 ^ 64) (row (g .s0) ++ row (g .s1) ++ row (g .s2)) (row (g .s3)) three (row-below (g .s3) (w .row3)))
+    let below : (l : List ℕ) → ((i : ℕ) → i < 8 → getD l i 0 < 2 ^ 64) → (i : ℕ) → getD (row l) i 0 < 2 ^ 64 = λ l h. table-below (2 ^ 64) 8 (λ i. getD l i 0) (pow-pos 64) h in
+    let h0 = below (g .s0) (λ i l. w .lanes i l .w0) in
+    let h1 = below (g .s1) (λ i l. w .lanes i l .w1) in
+    let h2 = below (g .s2) (λ i l. w .lanes i l .w2) in
+    let h3 = below (g .s3) (λ i l. w .lanes i l .w3) in
+    let two = append-below (2 ^ 64) (row (g .s0)) (row (g .s1)) h0 h1 in
+    let three = append-below (2 ^ 64) (row (g .s0) ++ row (g .s1)) (row (g .s2)) two h2 in
+    fits-run 8 (fieldsOf g) (append-below (2 ^ 64) (row (g .s0) ++ row (g .s1) ++ row (g .s2)) (row (g .s3)) three h3)
 
 -- what is read from a generator's form is the generator; what is laid out from a form's fields is the form
 pub read-saved : (g : Xoshiro256ppX8) → Words g → ofFields (fields layout (formOf g)) ≡ g

@@ -2,13 +2,12 @@
 use mathlib.Core.Bool.{true, false}
 use mathlib.Core.List.{List}
 use mathlib.Core.Path.{_≡_}
-use Prim.Native.Nat.{ℕ, _^_, _<_}
+use Prim.Native.Nat.{ℕ, _<_}
 use lib.ListN.{length, getD}
-use Rattle.base.specs.Iterate.{iterate}
 use Rattle.saved.specs.fields.Fields.{fields}
 use Rattle.xoshiro.specs.scalar.Calls.{stateOf}
+use Rattle.xoshiro.specs.scalar.Claims as scalar
 use Rattle.xoshiro.specs.scalar.Xoshiro256pp.{allZero}
-use Rattle.xoshiro.specs.x8.Calls.{nextOf}
 use Rattle.xoshiro.specs.x8.Claims.{Eights}
 use Rattle.xoshiro.specs.x8.Lanes.{laneOf}
 use Rattle.xoshiro.specs.declared.x8.Xoshiro256ppX8.{Xoshiro256ppX8}
@@ -18,20 +17,21 @@ use Rattle.saved.specs.xoshiro256pp.Form.{layout, formOf, laneIn, loaded
 abbrev pub FormLength : Type 0
 FormLength = (g : Xoshiro256ppX8) → length (formOf g) ≡ 256
 
--- what a generator's type says: four rows of eight words below 2 ^ 64
+-- what a generator's type says: eight lanes of four words below 2 ^ 64
 pub record Words (g : Xoshiro256ppX8) : Type 0 where
   pub eights : Eights g
-  pub row0 : (i : ℕ) → getD (g .s0) i 0 < 2 ^ 64
-  pub row1 : (i : ℕ) → getD (g .s1) i 0 < 2 ^ 64
-  pub row2 : (i : ℕ) → getD (g .s2) i 0 < 2 ^ 64
-  pub row3 : (i : ℕ) → getD (g .s3) i 0 < 2 ^ 64
+  pub lanes : (i : ℕ) → i < 8 → scalar.Words (laneOf g i)
 
 abbrev pub NoZeroLane : Xoshiro256ppX8 → Type 0
 NoZeroLane g = (i : ℕ) → i < 8 → allZero (laneOf g i) ≡ false
 
--- saving then loading restores a generator with no zero lane
+-- saving then loading restores the generator
+abbrev pub Restored : Xoshiro256ppX8 → Type 0
+Restored g = loaded (formOf g) ≡ record { refusal = 0; rng = g }
+
+-- as it does one with no zero lane
 abbrev pub LoadSaved : Type 0
-LoadSaved = (g : Xoshiro256ppX8) → Words g → NoZeroLane g → loaded (formOf g) ≡ record { refusal = 0; rng = g }
+LoadSaved = (g : Xoshiro256ppX8) → Words g → NoZeroLane g → Restored g
 
 -- loading then saving gives the same bytes, for every accepted form
 abbrev pub SaveLoaded : Type 0
@@ -45,8 +45,3 @@ pub record Refused (s : List ℕ) : Type 0 where
 
 abbrev pub Refusals : Type 0
 Refusals = (s : List ℕ) → Refused s
-
--- the state after any draws from an accepted form is restored by saving and loading: a fill's form is accepted again
-abbrev pub StaysAccepted : Type 0
-StaysAccepted = (s : List ℕ) (n : ℕ) → loaded s .refusal ≡ 0 → Words (loaded s .rng)
-    → loaded (formOf (iterate nextOf n (loaded s .rng))) ≡ record { refusal = 0; rng = iterate nextOf n (loaded s .rng) }

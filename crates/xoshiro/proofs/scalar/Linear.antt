@@ -2,7 +2,7 @@
 use mathlib.Core.List.{List}
 use mathlib.Core.Path.{_≡_, refl, sym, ap, ap₂, _∙_}
 use Prim.Native.Nat.{ℕ, zero, suc}
-use lib.Bits.{bitXor, xor-zero-r}
+use lib.Bits.{bitXor, xor-self, xor-zero-r}
 use Rattle.base.specs.Iterate.{iterate}
 use Rattle.base.proofs.Iterate.{iterate-past}
 use Rattle.base.proofs.Quad.{quad-path}
@@ -23,7 +23,11 @@ pub plus-assoc : (a b c : State) → plus (plus a b) c ≡ plus a (plus b c)
 unfolding plus
 plus-assoc a b c = quad-path (xor-assoc (a .w0) (b .w0) (c .w0)) (xor-assoc (a .w1) (b .w1) (c .w1)) (xor-assoc (a .w2) (b .w2) (c .w2)) (xor-assoc (a .w3) (b .w3) (c .w3))
 
-plus-exchange : (a b c d : State) → plus (plus a b) (plus c d) ≡ plus (plus a c) (plus b d)
+pub plus-self : (a : State) → plus a a ≡ none
+unfolding plus none
+plus-self a = quad-path (xor-self (a .w0)) (xor-self (a .w1)) (xor-self (a .w2)) (xor-self (a .w3))
+
+pub plus-exchange : (a b c d : State) → plus (plus a b) (plus c d) ≡ plus (plus a c) (plus b d)
 unfolding plus
 plus-exchange a b c d =
     quad-path
@@ -33,7 +37,7 @@ plus-exchange a b c d =
     (xor-exchange (a .w3) (b .w3) (c .w3) (d .w3))
 
 -- ---- a step
-step-none : step none ≡ none
+pub step-none : step none ≡ none
 unfolding step none shl rotl
 step-none = refl
 
@@ -53,7 +57,7 @@ pub record Linear (f : State → State) : Type 0 where
   pub steps-with : (a : State) → f (step a) ≡ step (f a)
 
 module _ (f : State → State) (l : Linear f) where
-  linear-times : (b : ℕ) (s : State) → f (times b s) ≡ times b (f s)
+  pub linear-times : (b : ℕ) (s : State) → f (times b s) ≡ times b (f s)
   unfolding times
   linear-times zero s = l .zeroes
   linear-times (suc b) s = refl
@@ -72,12 +76,12 @@ pub linear-step : Linear step
 linear-step = record { zeroes = step-none; adds = step-plus; steps-with = λ a. refl }
 
 -- ---- a jump is linear itself
-times-plus : (b : ℕ) (x y : State) → times b (plus x y) ≡ plus (times b x) (times b y)
+pub times-plus : (b : ℕ) (x y : State) → times b (plus x y) ≡ plus (times b x) (times b y)
 unfolding times
 times-plus zero x y = sym (plus-none none)
 times-plus (suc b) x y = refl
 
-times-none : (b : ℕ) → times b none ≡ none
+pub times-none : (b : ℕ) → times b none ≡ none
 unfolding times
 times-none zero = refl
 times-none (suc b) = refl

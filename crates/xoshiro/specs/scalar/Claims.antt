@@ -1,13 +1,20 @@
 -- What is claimed of the scalar stream. Each claim is proved in proofs/scalar/Theorems.antt, as commute : Commute.
 use mathlib.Core.List.{List}
 use mathlib.Core.Path.{_≡_}
-use Prim.Native.Nat.{ℕ, _+_, _<_}
+use Prim.Native.Nat.{ℕ, _+_, _^_, _<_}
 use lib.ListN.{length}
 use Rattle.base.specs.Iterate.{iterate}
 use Rattle.xoshiro.specs.scalar.Xoshiro256pp.{State, step, steps, plus, none, bitOf, summed, jumped}
 use Rattle.xoshiro.specs.scalar.Xoshiro256pp.{highestOf, jumpPoly, longJumpPoly}
 use Rattle.xoshiro.specs.scalar.Calls.{stateOf, generator, jumpedBy}
 use Rattle.xoshiro.specs.declared.scalar.Xoshiro256pp.{Xoshiro256pp}
+
+-- what a state's type says: four words below 2 ^ 64
+pub record Words (s : State) : Type 0 where
+  pub w0 : s .w0 < 2 ^ 64
+  pub w1 : s .w1 < 2 ^ 64
+  pub w2 : s .w2 < 2 ^ 64
+  pub w3 : s .w3 < 2 ^ 64
 
 -- a step is linear over xor
 abbrev pub StepLinear : Type 0
