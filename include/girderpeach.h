@@ -36,7 +36,7 @@
 #define GP_NORMAL_F32 5 /* 4 bytes, groups of 16, 1 draw a group: standard normal */
 #define GP_NORMAL_F64 6 /* 8 bytes, groups of 16, 2 draws a group: standard normal */
 
-/* Refusals. */
+/* Refusals. A form that these calls wrote, handed back whole and unchanged, is not refused. */
 #define GP_REFUSED_FORM_LENGTH 1 /* form_len is not 256 (xoshiro) or 96 (Philox) */
 #define GP_REFUSED_MARK 2        /* a Philox form's mark is neither 0 nor 1, or it is 0 and a waiting byte is not zero */
 #define GP_REFUSED_ZERO_LANE 3   /* some lane of an xoshiro form has four zero words */
@@ -54,8 +54,8 @@ int64_t gp_xoshiro_fill(uint8_t *form, size_t form_len, uint64_t kind, uint8_t *
 /* The same for Philox. Refuses with 1, 2, 4, 5. */
 int64_t gp_philox_fill(uint8_t *form, size_t form_len, uint64_t kind, uint8_t *out, size_t out_len);
 
-/* Writes the form of block `block` of `seed`: lane i is the seed's state after (8 block mod 2^64) + i jumps. Writes
- * 8 block mod 2^64 to *jumps and answers 0. Refuses with 1, and then leaves *jumps as it was.
+/* Writes the form of block `block` of `seed`: lane i is the seed's state after (8 block mod 2^64) + i jumps of
+ * 2^128 steps each. Writes 8 block mod 2^64 to *jumps and answers 0. Refuses with 1, and then leaves *jumps as it was.
  * Makes (8 block mod 2^64) + 7 jumps, of about 0.3 microseconds each, so that a block far off takes long. */
 int64_t gp_xoshiro_new(uint64_t seed, uint64_t block, uint8_t *form, size_t form_len, uint64_t *jumps);
 
