@@ -173,6 +173,12 @@ static double bar(int at, int engine, int kind, size_t n) {
 static char missed[8192];
 static size_t missed_end;
 
+static void miss(int at, const char *what, double most, double has) {
+    if (missed_end < sizeof missed)
+        missed_end += (size_t)snprintf(missed + missed_end, sizeof missed - missed_end, "| %s | | | | %s | %.2f | %.2f |\n",
+                                       levels[at].name, what, most, has);
+}
+
 static void hold(const char *what, int at, const runner *r, size_t n, double ratio) {
     double most = bar(at, r->engine, r->kind, n);
     if (most > 0 && ratio > most + 0.005 && !(at == 0 && n == MOST && r->source == TYPED) && missed_end < sizeof missed)
@@ -211,6 +217,7 @@ typedef struct {
     void *g;           /* the Rust's generator */
     uint64_t rows[32]; /* ours */
     philox counted;
+    uint64_t block; /* that a call starts at */
 } pair_state;
 typedef void task(pair_state *s, long calls, uint64_t *result);
 
@@ -242,20 +249,20 @@ static void my_philox_draws(pair_state *s, long calls, uint64_t *result) {
         draw(p.key, &p.stream, &p.counter, &p.waiting, p.pending, result);
 }
 
-/* A move by one block is 64 jumps. */
+/* Jumps of one stream, one after another, from one state. */
 static void their_jumps(pair_state *s, long calls, uint64_t *result) {
-    void (*move)(void *, uint64_t) = symbol(s->level->rust, "rust_jump_blocks", "", "");
-    void (*state)(void *, uint64_t *) = symbol(s->level->rust, "rust_xoshiro_state", "", "");
-    for (long i = 0; i < calls; i += 64)
-        move(s->g, 1);
-    state(s->g, result);
+    void (*jump)(uint64_t *) = symbol(s->level->rust, "rust_jump", "", "");
+    result[0] = SEED;
+    for (long i = 0; i < calls; i++)
+        jump(result);
 }
 
 static void my_jumps(pair_state *s, long calls, uint64_t *result) {
-    uint64_t (*move)(uint64_t *, uint64_t) = symbol(s->level->typed[XOSHIRO], "oracle_xoshiro_jump_blocks", "", "");
-    for (long i = 0; i < calls; i += 64)
-        move(s->rows, 1);
-    memcpy(result, s->rows, sizeof s->rows);
+    uint64_t (*jump)(uint64_t *, uint64_t *) = symbol(s->level->typed[XOSHIRO], "oracle_xoshiro_jump", "", "");
+    uint64_t walked[4];
+    result[0] = SEED;
+    for (long i = 0; i < calls; i++)
+        jump(result, walked);
 }
 
 static void their_blocks(pair_state *s, long calls, uint64_t *result) {
@@ -263,7 +270,7 @@ static void their_blocks(pair_state *s, long calls, uint64_t *result) {
     void (*drop)(void *) = symbol(s->level->rust, "rust_xoshiro_drop", "", "");
     void (*state)(void *, uint64_t *) = symbol(s->level->rust, "rust_xoshiro_state", "", "");
     for (long i = 0; i < calls; i++) {
-        void *g = new (SEED, 1000);
+        void *g = new (SEED, s->block);
         state(g, result);
         drop(g);
     }
@@ -272,16 +279,17 @@ static void their_blocks(pair_state *s, long calls, uint64_t *result) {
 static void my_blocks(pair_state *s, long calls, uint64_t *result) {
     uint64_t (*new)(uint64_t *, uint64_t, uint64_t) = symbol(s->level->typed[XOSHIRO], "oracle_xoshiro_from_seed_block", "", "");
     for (long i = 0; i < calls; i++)
-        new (result, SEED, 1000);
+        new (result, SEED, s->block);
 }
 
-static void pair(const char *what, task *theirs, task *mine, long calls, int runs) {
+/* `most` is the most that the ratio may be, 0 where nothing is asked. */
+static void pair(const char *what, task *theirs, task *mine, uint64_t block, long calls, int runs, double most) {
     static pair_state states[LEVELS];
     double best[LEVELS][2];
     for (int l = 0; l < level_count; l++) {
         void *(*new)(uint64_t, uint64_t) = symbol(levels[l].rust, "rust_xoshiro_new", "", "");
         uint64_t (*ours)(uint64_t *, uint64_t, uint64_t) = symbol(levels[l].typed[XOSHIRO], "oracle_xoshiro_from_seed_block", "", "");
-        states[l] = (pair_state){.level = &levels[l], .g = new (SEED, 0)};
+        states[l] = (pair_state){.level = &levels[l], .g = new (SEED, 0), .block = block};
         ours(states[l].rows, SEED, 0);
     }
     for (int i = 0; i < runs; i++)
@@ -297,8 +305,63 @@ static void pair(const char *what, task *theirs, task *mine, long calls, int run
             differences += memcmp(result[0], result[1], sizeof result[0]) != 0;
         }
     printf("| %s |", what);
-    for (int l = 0; l < level_count; l++)
-        printf(" %.1f | %.1f (%.2f) |", best[l][0], best[l][1], best[l][1] / best[l][0]);
+    for (int l = 0; l < level_count; l++) {
+        double ratio = best[l][1] / best[l][0];
+        printf(" %.1f | %.1f (%.2f) |", best[l][0], best[l][1], ratio);
+        if (most > 0 && ratio > most + 0.005)
+            miss(l, what, most, ratio);
+    }
+    puts("");
+    fflush(stdout);
+}
+
+/* The C library's calls that lead far, most of them to where the Rust would not arrive: tests/ holds them to a second writing. At most so
+ * many µs. Each is the best of RUNS calls with the same number, whose bits the processor may come to foresee. */
+typedef struct {
+    const char *what;
+    bool skips; /* draws, and not to a block or over blocks */
+    bool moves; /* over blocks */
+    uint64_t n;
+    double most;
+} far_call;
+
+static const far_call far_calls[] = {
+    {"`gp_xoshiro_new(seed, 100000)`", false, false, 100000, 20},
+    {"`gp_xoshiro_new(seed, 48211934)`", false, false, 48211934, 200},
+    {"`gp_xoshiro_new(seed, 2^61 - 1)`", false, false, ((uint64_t)1 << 61) - 1, 200},
+    {"`gp_xoshiro_jump_blocks(1)`", false, true, 1, 0},
+    {"`gp_xoshiro_jump_blocks(2^61 - 1)`", false, true, ((uint64_t)1 << 61) - 1, 0},
+    {"`gp_xoshiro_skip(1)`", true, false, 1, 0},
+    {"`gp_xoshiro_skip(1000000000)`", true, false, 1000000000, 1000},
+    {"`gp_xoshiro_skip(2^64 - 1)`", true, false, UINT64_MAX, 1000},
+};
+
+static void far(const far_call *c) {
+    printf(c->most > 0 ? "| %s | %.0f |" : "| %s | |", c->what, c->most);
+    for (int l = 0; l < level_count; l++) {
+        int64_t (*new)(uint64_t, uint64_t, uint8_t *, size_t, uint64_t *) = symbol(levels[l].library, "gp_xoshiro_new", "", "");
+        int64_t (*move)(uint8_t *, size_t, uint64_t, uint64_t *) = symbol(levels[l].library, "gp_xoshiro_jump_blocks", "", "");
+        int64_t (*skip)(uint8_t *, size_t, uint64_t) = symbol(levels[l].library, "gp_xoshiro_skip", "", "");
+        uint8_t form[GP_XOSHIRO_FORM];
+        uint64_t jumps;
+        double best = 0;
+        new (SEED, 0, form, sizeof form, &jumps);
+        for (int i = 0; i < RUNS; i++) {
+            double began = seconds();
+            if (c->skips)
+                skip(form, sizeof form, c->n);
+            else if (c->moves)
+                move(form, sizeof form, c->n, &jumps);
+            else
+                new (SEED, c->n, form, sizeof form, &jumps);
+            double took = (seconds() - began) * 1e6;
+            if (i == 0 || took < best)
+                best = took;
+        }
+        printf(" %.1f |", best);
+        if (c->most > 0 && best > c->most)
+            miss(l, c->what, c->most, best);
+    }
     puts("");
     fflush(stdout);
 }
@@ -309,6 +372,7 @@ static runner painters[ENGINES][KINDS][SOURCES];
 static struct {
     int64_t (*xoshiro_new)(uint64_t, uint64_t, uint8_t *, size_t, uint64_t *), (*move)(uint8_t *, size_t, uint64_t, uint64_t *);
     int64_t (*philox_new)(uint64_t, uint64_t, uint8_t *, size_t), (*seek)(uint8_t *, size_t, uint64_t), (*left)(const uint8_t *, size_t);
+    int64_t (*xoshiro_skip)(uint8_t *, size_t, uint64_t), (*philox_skip)(uint8_t *, size_t, uint64_t);
     uint8_t form[GP_XOSHIRO_FORM];
     uint64_t jumps;
 } others_of_library;
@@ -316,8 +380,10 @@ static struct {
 static void every_call(void) {
     others_of_library.xoshiro_new(SEED, 1, others_of_library.form, GP_XOSHIRO_FORM, &others_of_library.jumps);
     others_of_library.move(others_of_library.form, GP_XOSHIRO_FORM, 1, &others_of_library.jumps);
+    others_of_library.xoshiro_skip(others_of_library.form, GP_XOSHIRO_FORM, 3);
     others_of_library.philox_new(SEED, 1, others_of_library.form, GP_PHILOX_FORM);
     others_of_library.seek(others_of_library.form, GP_PHILOX_FORM, 1);
+    others_of_library.philox_skip(others_of_library.form, GP_PHILOX_FORM, 3);
     others_of_library.left(others_of_library.form, GP_PHILOX_FORM);
     for (int e = 0; e < ENGINES; e++)
         for (int k = 0; k < KINDS; k++)
@@ -337,6 +403,8 @@ static size_t stack_depth(const level *l) {
             }
     others_of_library.xoshiro_new = symbol(l->library, "gp_xoshiro_new", "", "");
     others_of_library.move = symbol(l->library, "gp_xoshiro_jump_blocks", "", "");
+    others_of_library.xoshiro_skip = symbol(l->library, "gp_xoshiro_skip", "", "");
+    others_of_library.philox_skip = symbol(l->library, "gp_philox_skip", "", "");
     others_of_library.philox_new = symbol(l->library, "gp_philox_new", "", "");
     others_of_library.seek = symbol(l->library, "gp_philox_seek", "", "");
     others_of_library.left = symbol(l->library, "gp_philox_draws_left", "", "");
@@ -382,14 +450,19 @@ int main(int argc, char **argv) {
                 row(e, k, lengths[n]);
     puts("\nns a call.\n");
     heading("| call |", " %s: Rust | ours |", 1 + 2 * level_count);
-    pair("a draw of eight words, xoshiro", their_xoshiro_draws, my_xoshiro_draws, 100000, 40);
-    pair("a draw of eight words, Philox", their_philox_draws, my_philox_draws, 100000, 40);
-    pair("`jump` (a 64th of a move by one block)", their_jumps, my_jumps, 6400, 40);
-    pair("`from_seed_block(seed, 1000)`", their_blocks, my_blocks, 1, 15);
+    pair("a draw of eight words, xoshiro", their_xoshiro_draws, my_xoshiro_draws, 0, 100000, 40, 0);
+    pair("a draw of eight words, Philox", their_philox_draws, my_philox_draws, 0, 100000, 40, 0);
+    pair("`jump`", their_jumps, my_jumps, 0, 1000, 200, 1.0);
+    pair("`from_seed_block(seed, 0)`", their_blocks, my_blocks, 0, 100, 200, 1.0);
+    pair("`from_seed_block(seed, 1000)`", their_blocks, my_blocks, 1000, 1, 15, 1.0);
+    puts("\nµs a call of the C library, and the most that is asked.\n");
+    heading("| call | asked |", " %s |", 2 + level_count);
+    for (size_t i = 0; i < sizeof far_calls / sizeof *far_calls; i++)
+        far(&far_calls[i]);
     printf("\nThe deepest stack of any of our calls, with its caller here:");
     for (int l = 0; l < level_count; l++)
         printf(" %s %zu bytes%s", levels[l].name, stack_depth(&levels[l]), l + 1 < level_count ? "," : ".\n");
-    puts("\nRatios over what is asked:\n\n| level | engine | kind | places | what | asked | has |\n|---|---|---|---|---|---|---|");
+    puts("\nOver what is asked (ratios to the Rust, and µs of the calls that lead far):\n\n| level | engine | kind | places | what | asked | has |\n|---|---|---|---|---|---|---|");
     puts(missed_end ? missed : "| none | | | | | | |");
     others(out, MOST);
     if (differences)

@@ -48,9 +48,12 @@ pub extern "C" fn rust_philox_draw(rng: &mut Philox4x32X8, words: &mut [u64; 8])
     *words = rng.next_u64x8();
 }
 
+/// A jump of one stream.
 #[no_mangle]
-pub extern "C" fn rust_jump_blocks(rng: &mut Xoshiro256ppX8, n: u64) {
-    rng.jump_blocks(n);
+pub extern "C" fn rust_jump(state: &mut [u64; 4]) {
+    let mut rng = Xoshiro256pp::from_state(*state);
+    rng.jump();
+    *state = rng.state();
 }
 
 /// The state, word k of lane i at 8 k + i.

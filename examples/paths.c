@@ -27,11 +27,11 @@
 #define BATCH 16
 #define MOST_YEARS 1000
 
-/* What an order takes. The start costs 2 microseconds for each block before its own, and the longest run is one of some minutes. */
+/* What an order takes. Block 2^61 would be block 0 again; the longest run is one of some minutes. */
 enum { SEED, BLOCK, PATHS, YEARS, PIECES, ARGUMENTS };
 static const char *const names[ARGUMENTS] = {"SEED", "BLOCK", "PATHS", "YEARS", "PIECES"};
 static const uint64_t least[ARGUMENTS] = {0, 0, 1, 1, 1};
-static const uint64_t most[ARGUMENTS] = {UINT64_MAX, 1000000, 10000000, MOST_YEARS, 10000};
+static const uint64_t most[ARGUMENTS] = {UINT64_MAX, ((uint64_t)1 << 61) - 1, 10000000, MOST_YEARS, 10000};
 
 struct run {
     uint64_t seed, block, paths, years;

@@ -56,22 +56,37 @@ int64_t gp_philox_fill(uint8_t *form, size_t form_len, uint64_t kind, uint8_t *o
 
 /* Writes the form of block `block` of `seed`: lane i is the seed's state after (8 block mod 2^64) + i jumps of
  * 2^128 steps each. Writes 8 block mod 2^64 to *jumps and answers 0. Refuses with 1, and then leaves *jumps as it was.
- * Makes (8 block mod 2^64) + 7 jumps, of about 0.3 microseconds each, so that a block far off takes long. */
+ * There are 2^61 blocks, 0 to 2^61 - 1: block 2^61 is block 0 again, and block b + 2^61 is block b, which is not refused. Every block is
+ * reached in well under a millisecond. */
 int64_t gp_xoshiro_new(uint64_t seed, uint64_t block, uint8_t *form, size_t form_len, uint64_t *jumps);
 
 /* Moves every lane on by 8 n mod 2^64 jumps, writes that number to *jumps and answers 0. Refuses with 1, 3, and then leaves *jumps as
- * it was. Makes 8 * (8 n mod 2^64) jumps, those of eight lanes one lane after another. */
+ * it was. */
 int64_t gp_xoshiro_jump_blocks(uint8_t *form, size_t form_len, uint64_t n, uint64_t *jumps);
+
+/* Moves the form on by `draws` draws, as if that many had been made, and answers 0. Refuses with 1, 3. However many they are, it takes
+ * well under a millisecond. So draw n of block b, counted from 0 as the program deliver counts FIRST, is next after
+ * gp_xoshiro_new(seed, b, ..) and gp_xoshiro_skip(.., n). */
+int64_t gp_xoshiro_skip(uint8_t *form, size_t form_len, uint64_t draws);
 
 /* Writes the form of stream `stream` of key `seed`, at block 0 with no words waiting, and answers 0. Refuses with 1. */
 int64_t gp_philox_new(uint64_t seed, uint64_t stream, uint8_t *form, size_t form_len);
 
-/* Makes `block` the next one, with no words waiting, and answers 0. Refuses with 1, 2. */
+/* Makes `block` the next one, with no words waiting, and answers 0. Refuses with 1, 2.
+ * A seek counts blocks, and not draws: two draws, each of eight words, use eight blocks. Draw n of a stream, counted from 0 as the program
+ * deliver counts FIRST, has for even n the lower words of the eight blocks from block 4 n on, and for odd n the upper words of those from
+ * block 4 (n - 1) on. So a seek to block n does not lead to draw n, and workers that sought the numbers of their first draws would share
+ * words: to start a worker at draw n, call gp_philox_skip(.., n) on a new form. */
 int64_t gp_philox_seek(uint8_t *form, size_t form_len, uint64_t block);
 
+/* Moves the form on by `draws` draws, as if that many had been made, and answers 0: words that wait are the first of them, and after it
+ * words wait where they would after the draws. Refuses with 1, 2. Takes about as long as one draw, however many they are.
+ * Like a fill, it is not refused at the end of a stream: there the blocks begin again, and 2^62 draws lead back to the same words. */
+int64_t gp_philox_skip(uint8_t *form, size_t form_len, uint64_t draws);
+
 /* Answers the draws left before the block counter passes 2^64: 2 floor((2^64 - counter) / 8), and 1 more if words wait; at most 2^62 + 1.
- * Count the draws of the fills that follow, up to the next seek, against one answer, and do not wait for 0, which may never come: where
- * the counter comes to 2^64 or passes it, it goes on modulo 2^64, and the answer is near 2^62 again. Refuses with 1, 2. */
+ * Count the draws of the fills and skips that follow, up to the next seek, against one answer, and do not wait for 0, which may never come:
+ * where the counter comes to 2^64 or passes it, it goes on modulo 2^64, and the answer is near 2^62 again. Refuses with 1, 2. */
 int64_t gp_philox_draws_left(const uint8_t *form, size_t form_len);
 
 #ifdef __cplusplus

@@ -1,6 +1,8 @@
-"""Writes crates/xoshiro_distance/proofs/Squares.antt to standard output: the polynomial of a step of xoshiro256++, and x squared 192 times modulo
-it. The prover checks them by computing, so nothing is believed of this program. Polynomials over GF(2) are numbers: bit k is the
-coefficient of x ^ k."""
+"""Writes crates/xoshiro_steps/proofs/Squares.antt to standard output: the polynomial of a step of xoshiro256++, and x squared 192 times modulo
+it. With the argument `powers`, the words of the tables of crates/xoshiro/src/powers.rt: x ^ (2 ^ j) for j from 0 to 63 and from 128 to 191. The
+prover checks them by computing, so nothing is believed of this program. Polynomials over GF(2) are numbers: bit k is the coefficient of
+x ^ k."""
+import sys
 
 # Blackman and Vigna, xoshiro256plusplus.c: what JUMP and LONG_JUMP should come out as.
 JUMP = [0x180EC6D33CFD0ABA, 0xD5A61266F0C9392C, 0xA9582618E03FC9AA, 0x39ABDC4529B1661C]
@@ -63,11 +65,18 @@ connection, degree = shortest_recurrence(bits)
 assert degree == 256
 polynomial = int(format(connection, "b").zfill(257)[::-1], 2)
 
-entries, power = [], 2
+entries, power, powers = [], 2, [2]
 for _ in range(192):
     quotient, power = divided(squared(power), polynomial)
     entries.append((quotient, power))
+    powers.append(power)
 for entry, words in (127, JUMP), (191, LONG_JUMP):
     assert entries[entry][1] == sum(word << 64 * i for i, word in enumerate(words))
 
+if sys.argv[1:] == ["powers"]:
+    for j in (*range(64), *range(128, 192)):
+        for i in range(4):
+            digits = "%016x" % (powers[j] >> 64 * i & 2**64 - 1)
+            print("0x" + "_".join(digits[k : k + 4] for k in range(0, 16, 4)))
+    sys.exit()
 print(HEAD % (polynomial, "\n    ∷ ".join("(%#x, %#x)" % entry for entry in entries)), end="")

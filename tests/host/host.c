@@ -134,9 +134,10 @@ struct engine {
     size_t length;
     int (*fault)(const uint8_t *form, size_t length);
     int64_t (*fill)(uint8_t *form, size_t form_len, uint64_t kind, uint8_t *out, size_t out_len);
+    int64_t (*skip)(uint8_t *form, size_t form_len, uint64_t draws);
 };
-static const struct engine xoshiro = {"gp_xoshiro_fill", 256, xoshiro_fault, gp_xoshiro_fill};
-static const struct engine philox = {"gp_philox_fill", 96, philox_fault, gp_philox_fill};
+static const struct engine xoshiro = {"gp_xoshiro_fill", 256, xoshiro_fault, gp_xoshiro_fill, gp_xoshiro_skip};
+static const struct engine philox = {"gp_philox_fill", 96, philox_fault, gp_philox_fill, gp_philox_skip};
 
 /* Of kinds 1 to 6: bytes of an element, elements of a group, draws of a group. */
 static const struct {
@@ -176,6 +177,23 @@ static void try_fill(const struct engine *e, const uint8_t *form, size_t form_le
     if (after) memcpy(after, f.at, form_len);
     give_back(&f);
     give_back(&o);
+}
+
+/* As if so many draws had been made: few of them are, by a fill of whole draws. */
+static void try_skip(const struct engine *e, const uint8_t *form, size_t form_len, uint64_t n, uint8_t *after) {
+    struct call c = {e == &xoshiro ? "gp_xoshiro_skip" : "gp_philox_skip", form_len, n, 0};
+    int fault = e->fault(form, form_len);
+    struct lent f = lend(form, form_len);
+    expect(&c, "answer", (uint64_t)e->skip(f.at, form_len, n), (uint64_t)-fault);
+    expect_kept(&c, "form", &f, fault || n == 0);
+    if (!fault && n <= 100) {
+        uint8_t drawn[256], out[6400];
+        memcpy(drawn, form, form_len);
+        expect(&c, "as many draws", (uint64_t)e->fill(drawn, form_len, 1, out, 64 * n), n);
+        expect(&c, "the form after as many draws", (uint64_t)same(f.at, drawn, form_len), 1);
+    }
+    if (after) memcpy(after, f.at, form_len);
+    give_back(&f);
 }
 
 /* Returns the number of jumps that was written. */
@@ -301,12 +319,13 @@ static void every_form_length(void) {
     put_philox(p, 0);
     for (size_t i = 0; i < sizeof lengths / sizeof *lengths; i++) {
         size_t n = lengths[i];
-        /* a block so far off that a call which is refused only after going there would not end */
-        uint64_t far = (uint64_t)1 << 50;
+        uint64_t far = UINT64_MAX / 9;
         every_kind_and_length(&xoshiro, x, n);
         every_kind_and_length(&philox, p, n);
-        try_xoshiro_new(1, n == 256 ? 1 : far, n, NULL);
-        try_jump_blocks(x, n, n == 256 ? 1 : far, NULL);
+        try_xoshiro_new(1, far, n, NULL);
+        try_jump_blocks(x, n, far, NULL);
+        try_skip(&xoshiro, x, n, far, NULL);
+        try_skip(&philox, p, n, far, NULL);
         try_philox_new(1, 2, n, NULL);
         try_seek(p, n, 3, NULL);
         try_draws_left(p, n);
@@ -323,6 +342,7 @@ static void damaged_philox(int waiting) {
             form[i] = (uint8_t)x;
             int fault = philox_fault(form, 96);
             try_seek(form, 96, noise(), NULL);
+            try_skip(&philox, form, 96, noise() % 8, NULL);
             try_draws_left(form, 96);
             try_fill(&philox, form, 96, 0, 3, fault ? -2 : -4, NULL, NULL);
             try_fill(&philox, form, 96, 1, 64, fault ? -2 : 1, out, after);
@@ -344,6 +364,7 @@ static void try_xoshiro_form(const uint8_t *form) {
     try_fill(&xoshiro, form, 256, 9, 1, fault ? -3 : -4, NULL, NULL);
     try_fill(&xoshiro, form, 256, 2, 64, fault ? -3 : 1, NULL, NULL);
     try_jump_blocks(form, 256, fault ? 1 : 0, NULL);
+    try_skip(&xoshiro, form, 256, noise() % 8, NULL);
 }
 
 /* Every set of lanes zeroed; each word zeroed; a lane with one byte that is not zero; each byte set to other values. */
@@ -399,6 +420,8 @@ static void replay(const struct line *l, const struct engine **e, uint8_t *form)
         try_philox_new(l->a, l->b, 96, form);
     } else if (!strcmp(l->call, "jump_blocks")) {
         number = try_jump_blocks(before, 256, l->a, form);
+    } else if (!strcmp(l->call, "skip")) {
+        try_skip(*e, before, (*e)->length, l->a, form);
     } else if (!strcmp(l->call, "seek")) {
         try_seek(before, 96, l->a, form);
     } else if (!strcmp(l->call, "fill") && l->a >= 1 && l->a <= 6) {
@@ -456,6 +479,8 @@ static void nulls(void) {
     expect(&c, "gp_xoshiro_jump_blocks", (uint64_t)gp_xoshiro_jump_blocks(NULL, 0, 1, &jumps), (uint64_t)-1);
     expect(&c, "jumps", jumps, 12345);
     expect(&c, "gp_philox_new", (uint64_t)gp_philox_new(1, 2, NULL, 0), (uint64_t)-1);
+    expect(&c, "gp_xoshiro_skip", (uint64_t)gp_xoshiro_skip(NULL, 0, 1), (uint64_t)-1);
+    expect(&c, "gp_philox_skip", (uint64_t)gp_philox_skip(NULL, 0, 1), (uint64_t)-1);
     expect(&c, "gp_philox_seek", (uint64_t)gp_philox_seek(NULL, 0, 1), (uint64_t)-1);
     expect(&c, "gp_philox_draws_left", (uint64_t)gp_philox_draws_left(NULL, 0), (uint64_t)-1);
 }

@@ -1,15 +1,19 @@
 """Tests the shared object from Python: host.py LIBRARY EXPECTED
 
-Words, unit floats, draws and forms are held to models of both engines, written here from the published definitions (Blackman and Vigna;
-Salmon et al. 2011) and the scope document; normals to the Box-Muller formula, within rounding; and all of it, bit for bit, to the Rust's
-answers in EXPECTED (tests/host/expected.txt)."""
+Words, unit floats, draws and forms are held to models of both engines, written here and in tests/xoshiro256pp.py from the published
+definitions (Blackman and Vigna; Salmon et al. 2011) and the scope document; normals to the Box-Muller formula, within rounding; and all of
+it, bit for bit, to the Rust's answers in EXPECTED (tests/host/expected.txt)."""
 import ctypes
 import math
+import os
 import random
 import struct
 import sys
 
-M32, M64 = 2**32 - 1, 2**64 - 1
+sys.path.insert(0, os.path.join(os.path.dirname(os.path.abspath(__file__)), ".."))
+from xoshiro256pp import JUMP_STEPS, M64, as_number, lanes_of, power, seeded, selected, step
+
+M32 = 2**32 - 1
 JUMP = (0x180EC6D33CFD0ABA, 0xD5A61266F0C9392C, 0xA9582618E03FC9AA, 0x39ABDC4529B1661C)
 # of kinds 1 to 6: bytes of an element, elements of a group, draws of a group
 KINDS = {1: (8, 8, 1), 2: (4, 16, 1), 3: (4, 16, 1), 4: (8, 8, 1), 5: (4, 16, 1), 6: (8, 16, 2)}
@@ -41,23 +45,6 @@ def fnv(data):
 # ---- models
 
 
-def rotl(x, n):
-    return (x << n | x >> (64 - n)) & M64
-
-
-def step(s):
-    """One step of xoshiro256++ on the four words in s; the output."""
-    out = (rotl((s[0] + s[3]) & M64, 23) + s[0]) & M64
-    t = s[1] << 17 & M64
-    s[2] ^= s[0]
-    s[3] ^= s[1]
-    s[1] ^= s[2]
-    s[0] ^= s[3]
-    s[2] ^= t
-    s[3] = rotl(s[3], 45)
-    return out
-
-
 def jumped(s):
     s, total = list(s), [0, 0, 0, 0]
     for word in JUMP:
@@ -66,10 +53,6 @@ def jumped(s):
                 total = [x ^ y for x, y in zip(total, s)]
             step(s)
     return total
-
-
-def as_number(s):
-    return sum(word << 64 * i for i, word in enumerate(s))
 
 
 def mapped(images, x):
@@ -94,17 +77,6 @@ def powers_of_step(count):
     return powers
 
 
-def seeded(seed):
-    """Four words of SplitMix64."""
-    words = []
-    for i in range(1, 5):
-        z = (seed + i * 0x9E3779B97F4A7C15) & M64
-        z = (z ^ z >> 30) * 0xBF58476D1CE4E5B9 & M64
-        z = (z ^ z >> 27) * 0x94D049BB133111EB & M64
-        words.append(z ^ z >> 31)
-    return words if any(words) else [1, 0, 0, 0]
-
-
 def philox_block(counter, key):
     """Philox4x32 in ten rounds."""
     c, (k0, k1) = list(counter), key
@@ -127,6 +99,24 @@ class Xoshiro:
 
     def draw(self):
         return [step(lane) for lane in self.lanes]
+
+    def far(self, steps):
+        coefficients = power(steps)
+        self.lanes = [selected(coefficients, lane) for lane in self.lanes]
+
+    def skip(self, n):
+        """One by one, where that does not take long."""
+        if n >= 200:
+            return self.far(n)
+        for _ in range(n):
+            self.draw()
+
+    def jump(self, n):
+        """The same, by the published polynomial."""
+        if n > 8:
+            return self.far(n * JUMP_STEPS)
+        for _ in range(n):
+            self.lanes = [jumped(lane) for lane in self.lanes]
 
     @staticmethod
     def fault(form):
@@ -164,6 +154,16 @@ class Philox:
 
     def seek(self, block):
         self.counter, self.mark, self.waiting = block, 0, [0] * 8
+
+    def skip(self, n):
+        """One by one, where that does not take long; else by the scope document's counter, a + 8 (d / 2 rounded up) after d draws."""
+        if n >= 200 and self.mark:
+            self.draw()
+            n -= 1
+        if n >= 200:
+            self.counter, n = (self.counter + 8 * (n // 2)) & M64, n % 2
+        for _ in range(n):
+            self.draw()
 
     def draws_left(self):
         """By the rule, and near the end also by counting the draws, one after another, until the next group would pass block 2^64."""
@@ -265,8 +265,10 @@ def declared(path):
         "gp_philox_fill": (bytes_at, size, u64, bytes_at, size),
         "gp_xoshiro_new": (u64, u64, bytes_at, size, number_at),
         "gp_xoshiro_jump_blocks": (bytes_at, size, u64, number_at),
+        "gp_xoshiro_skip": (bytes_at, size, u64),
         "gp_philox_new": (u64, u64, bytes_at, size),
         "gp_philox_seek": (bytes_at, size, u64),
+        "gp_philox_skip": (bytes_at, size, u64),
         "gp_philox_draws_left": (bytes_at, size),
     }.items():
         call = getattr(lib, name)
@@ -295,6 +297,9 @@ class Host:
 
     def jump_blocks(self, form, blocks):
         return self.called("gp_xoshiro_jump_blocks", form, lambda call, at, n, jumps: call(at, n, blocks, jumps))
+
+    def skip(self, engine, form, draws):
+        return self.called(f"gp_{engine.name}_skip", form, lambda call, at, n, _: call(at, n, draws))
 
     def philox_new(self, seed, stream, form):
         return self.called("gp_philox_new", form, lambda call, at, n, _: call(seed, stream, at, n))
@@ -331,23 +336,45 @@ def try_draws_left(host, form):
     expect(f"draws_left, form {form.hex()}", host.draws_left(form), (answer, UNTOUCHED, form))
 
 
+def some_number():
+    """Small, near a power of two, near the end, or any."""
+    near = chance.choice((2 ** chance.randrange(64), 2**61, 2**63, M64)) + chance.randrange(-20, 21)
+    return chance.choice((0, 1, chance.randrange(60), chance.randrange(1000), near & M64, chance.getrandbits(64)))
+
+
+def try_skip(host, engine, form, n):
+    fault = engine.fault(form)
+    if fault:
+        expected = (-fault, UNTOUCHED, form)
+    else:
+        model = engine(form)
+        model.skip(n)
+        expected = (0, UNTOUCHED, model.form())
+    expect(f"{engine.name} skip({n}), form {form.hex()}", host.skip(engine, form, n), expected)
+    return expected[2]
+
+
+def try_move(host, form, n):
+    fault, jumps = Xoshiro.fault(form), 8 * n & M64
+    expected = (-fault, UNTOUCHED, form)
+    if not fault:
+        model = Xoshiro(form)
+        model.jump(jumps)
+        expected = (0, jumps, model.form())
+    expect(f"jump_blocks({n}), form {form.hex()}", host.jump_blocks(form, n), expected)
+    return expected[2]
+
+
 def some_block():
     return chance.choice((0, 8 * chance.randrange(1000), chance.getrandbits(64), M64 - chance.randrange(20), 2**32 - chance.randrange(20)))
 
 
 def try_own(host, engine, form):
-    """One call that this engine alone has."""
+    """A skip, and calls that this engine alone has."""
     fault = engine.fault(form)
+    form = try_skip(host, engine, form, some_number())
     if engine is Xoshiro:
-        # where the length is wrong, so far that a call which is refused only after going there would not end
-        n = 2**50 if fault == 1 else chance.choice((0, 2**61, 5 * 2**61, 1))
-        model = None if fault else Xoshiro(form)
-        for _ in range(0 if fault else 8 * n & M64):
-            model.lanes = [jumped(lane) for lane in model.lanes]
-        expected = (-fault, UNTOUCHED, form) if fault else (0, 8 * n & M64, model.form())
-        found = host.jump_blocks(form, n)
-        expect(f"jump_blocks({n}), form {form.hex()}", found, expected)
-        return found[2]
+        return try_move(host, form, chance.choice((1, 2**61, 5 * 2**61, some_number())))
     try_draws_left(host, form)
     block = some_block()
     after = form if fault else form[:16] + struct.pack("<Q", block) + bytes(72)
@@ -379,6 +406,26 @@ def starts(host):
             expect(f"philox_new, form length {length}", host.philox_new(1, 2, noise), (-1, UNTOUCHED, noise))
 
 
+EDGES = (0, 1, 2, 3, 2**61 - 1, 2**61, 2**61 + 1, 2**62 - 1, 2**62, 2**63 - 1, 2**63, M64 - 15, M64 - 1, M64)
+
+
+def far(host):
+    """Blocks and draws far off, near 2^61 and 2^64 among them, from the seed: by the polynomial of a step. Skips and moves from any form."""
+    for n in EDGES:
+        try_move(host, good_form(Xoshiro), n)
+        try_skip(host, Xoshiro, good_form(Xoshiro), n)
+        for mark in 0, 1, 0, 1:
+            try_skip(host, Philox, good_form(Philox, mark), n)
+    places = [(b, d) for b in EDGES for d in (0, 2**61, M64 - 15, M64)] + [(some_number(), some_number()) for _ in range(40)]
+    for block, draws in places:
+        seed, jumps = chance.getrandbits(64), 8 * block & M64
+        lanes = lanes_of(seed, jumps, draws)
+        form = struct.pack("<32Q", *(lane[row] for row in range(4) for lane in lanes))
+        begun = host.xoshiro_new(seed, block, chance.randbytes(256))
+        expect(f"xoshiro_new({seed}, {block})", begun[:2], (0, jumps))
+        expect(f"block {block} of seed {seed} after {draws} draws", host.skip(Xoshiro, begun[2], draws), (0, UNTOUCHED, form))
+
+
 def distances(host):
     """After fills and moves lane i is the seed's stream after (J + i) * 2 ** 128 + D steps: K14. The powers reach J + i = 255."""
     powers = powers_of_step(136)
@@ -402,11 +449,11 @@ def distances(host):
             expect(f"the form of seed {seed} where J is {j} and D is {d}", form, expected)
 
 
-def good_form(engine):
+def good_form(engine, mark=None):
     form = chance.randbytes(engine.length)
     if engine is Philox:
         counter = chance.choice((0, chance.getrandbits(64), M64 - chance.randrange(300), 2**32 - chance.randrange(300)))
-        mark = chance.randrange(2)
+        mark = chance.randrange(2) if mark is None else mark
         form = form[:16] + struct.pack("<2Q", counter, mark) + (form[32:] if mark else bytes(64))
     return form
 
@@ -502,6 +549,9 @@ def replayed(host, path):
             engine, (found, _, form) = Philox, host.philox_new(a, b, bytes(96))
         elif call == "jump_blocks":
             found, beside, form = host.jump_blocks(form, a)
+        elif call == "skip":
+            found, _, form = host.skip(engine, form, a)
+            beside = 0
         else:
             found, _, form = host.seek(form, a)
         if engine is Philox:
@@ -513,6 +563,7 @@ def main(library, expected):
     host = Host(library)
     published()
     starts(host)
+    far(host)
     distances(host)
     for engine in Xoshiro, Philox:
         lists(host, engine, 60)

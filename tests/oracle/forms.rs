@@ -60,6 +60,13 @@ pub fn filled<R: Rng8>(rust: &mut R, number: u64, n: usize) -> (i64, Vec<u8>) {
     (kind(number).expect("a kind").draws_for(n) as i64, out)
 }
 
+/// n draws, one by one.
+pub fn draw<R: Rng8>(rust: &mut R, n: u64) {
+    for _ in 0..n {
+        rust.next_u64x8();
+    }
+}
+
 pub trait Saved: Rng8 {
     fn form(&self) -> Vec<u8>;
 }

@@ -1,20 +1,23 @@
 //! The C library, linked as a static library, against the Rust's: the same calls on both sides, and after each of them the same bits in
 //! the output and around it, the answer that the scope document gives, and a saved form that is the Rust's generator laid out (forms.rs).
-//! The argument is how many lists of mixed calls each engine gets.
+//! The arguments are how many lists of mixed calls each engine gets, and to which draw the Rust walks beside the skips.
 mod common;
 mod forms;
 use common::{Count, Random};
-use forms::{draws_left, filled, kind, Saved};
+use forms::{draw, draws_left, filled, kind, Saved};
 use tpt_simd_rng::{Philox4x32X8, Xoshiro256pp, Xoshiro256ppX8};
 
 type Fill = unsafe extern "C" fn(*mut u8, usize, u64, *mut u8, usize) -> i64;
+type Skip = unsafe extern "C" fn(*mut u8, usize, u64) -> i64;
 extern "C" {
     fn gp_xoshiro_fill(form: *mut u8, form_len: usize, kind: u64, out: *mut u8, out_len: usize) -> i64;
     fn gp_philox_fill(form: *mut u8, form_len: usize, kind: u64, out: *mut u8, out_len: usize) -> i64;
     fn gp_xoshiro_new(seed: u64, block: u64, form: *mut u8, form_len: usize, jumps: *mut u64) -> i64;
     fn gp_xoshiro_jump_blocks(form: *mut u8, form_len: usize, n: u64, jumps: *mut u64) -> i64;
+    fn gp_xoshiro_skip(form: *mut u8, form_len: usize, draws: u64) -> i64;
     fn gp_philox_new(seed: u64, stream: u64, form: *mut u8, form_len: usize) -> i64;
     fn gp_philox_seek(form: *mut u8, form_len: usize, block: u64) -> i64;
+    fn gp_philox_skip(form: *mut u8, form_len: usize, draws: u64) -> i64;
     fn gp_philox_draws_left(form: *const u8, form_len: usize) -> i64;
 }
 
@@ -92,11 +95,28 @@ impl<R: Engine> Pair<'_, R> {
         self.check(what, (answer, form), draws, count);
         out.check(|| format!("{} {}, the output", R::NAME, what()), &after, count);
     }
+
+    fn skip(mut self, draws: u64, count: &mut Count) {
+        let mut form = Lent::new(self.form);
+        let answer = unsafe { R::SKIP(form.at(), form.len(), draws) };
+        if self.refusal == 0 {
+            draw(self.rust, draws);
+        }
+        count.others += 1;
+        self.check(|| format!("skip of {draws} draws"), (answer, form), 0, count);
+    }
+}
+
+/// How many draws a skip of a list is: none, few, or many.
+fn random_draws(random: &mut Random) -> u64 {
+    let most = random.of(&[1, 4, 64, 2000]);
+    random.below(most)
 }
 
 trait Engine: Saved + Sized {
     const NAME: &'static str;
     const FILL: Fill;
+    const SKIP: Skip;
     /// A random start, on both sides.
     fn start(random: &mut Random, count: &mut Count) -> (Vec<u8>, Self);
     /// A random call that this engine alone has.
@@ -113,6 +133,7 @@ const ROUND: u64 = 1 << 61;
 impl Engine for Xoshiro256ppX8 {
     const NAME: &'static str = "xoshiro";
     const FILL: Fill = gp_xoshiro_fill;
+    const SKIP: Skip = gp_xoshiro_skip;
 
     /// From a seed and a block, or from lanes of any words, some of them zero.
     fn start(random: &mut Random, count: &mut Count) -> (Vec<u8>, Self) {
@@ -160,6 +181,7 @@ impl Engine for Xoshiro256ppX8 {
 impl Engine for Philox4x32X8 {
     const NAME: &'static str = "Philox";
     const FILL: Fill = gp_philox_fill;
+    const SKIP: Skip = gp_philox_skip;
 
     fn start(random: &mut Random, count: &mut Count) -> (Vec<u8>, Self) {
         let (seed, stream) = (random.next(), random.next() >> random.of(&[0, 40, 63]));
@@ -221,8 +243,9 @@ fn refused<R: Engine>(form: &[u8], rust: &mut R, random: &mut Random, count: &mu
         form.resize(other, 7);
     }
     let pair = Pair { form: &mut form, rust, refusal };
-    match random.below(3) {
+    match random.below(4) {
         0 => R::own_call(pair, random, count),
+        3 => pair.skip(random_draws(random), count),
         1 => pair.fill(1 + random.below(6), random_length(random), random, count),
         _ => pair.fill(random.of(&UNKNOWN), random_length(random), random, count),
     }
@@ -237,7 +260,8 @@ fn list<R: Engine>(random: &mut Random, count: &mut Count) {
         let number = 1 + random.below(6);
         let width = kind(number).expect("a kind").width;
         let pair = Pair { form: &mut form, rust: &mut rust, refusal: 0 };
-        match random.below(10) {
+        match random.below(11) {
+            10 => pair.skip(random_draws(random), count),
             0..=5 => pair.fill(number, n * width, random, count),
             6 => pair.fill(number, n, random, count),
             7 => pair.fill(random.of(&UNKNOWN), n, random, count),
@@ -258,9 +282,52 @@ fn run<R: Engine>(lists: u64, random: &mut Random) -> u64 {
     count.report(&format!("{}, {lists} lists of mixed calls", R::NAME))
 }
 
+/// Skips from one start on, held to the Rust's generator, which walks there draw by draw.
+fn walk<R: Engine>(far: u64, random: &mut Random) -> u64 {
+    let mut count = Count::default();
+    let (mut start, mut rust) = R::start(random, &mut count);
+    // one draw before, so that on Philox words wait
+    Pair { form: &mut start, rust: &mut rust, refusal: 0 }.fill(1, 64, random, &mut count);
+    let mut stops: Vec<u64> = std::iter::successors(Some(far), |n| (*n > 0).then(|| n / 10)).collect();
+    stops.extend((0..20).map(|_| random.below(far)));
+    stops.sort_unstable();
+    let mut at = 0;
+    for n in stops {
+        draw(&mut rust, n - at);
+        at = n;
+        let (mut form, mut lent) = (start.clone(), Lent::new(&start));
+        let answer = unsafe { R::SKIP(lent.at(), lent.len(), n) };
+        count.others += 1;
+        Pair { form: &mut form, rust: &mut rust, refusal: 0 }.check(|| format!("skip of {n} draws"), (answer, lent), 0, &mut count);
+    }
+    count.report(&format!("{}, skips to draw {far}", R::NAME))
+}
+
+/// Blocks, each held to the Rust's, which makes its jumps one by one; and moves from block 0 to them.
+fn blocks(random: &mut Random) -> u64 {
+    let mut count = Count::default();
+    let seed = random.next();
+    let zero = Xoshiro256ppX8::from_seed_block(seed, 0).form();
+    for block in [7, 999, 1000, 30_000 + random.below(9000), 99_999, 100_000] {
+        let mut rust = Xoshiro256ppX8::from_seed_block(seed, block);
+        let (mut form, mut begun, mut moved) = (rust.form(), Lent::new(&[0; 256]), Lent::new(&zero));
+        let mut jumps = [UNTOUCHED; 2];
+        let begins = unsafe { gp_xoshiro_new(seed, block, begun.at(), begun.len(), &mut jumps[0]) };
+        Pair { form: &mut form, rust: &mut rust, refusal: 0 }.check(|| format!("new({seed}, {block})"), (begins, begun), 0, &mut count);
+        let moves = unsafe { gp_xoshiro_jump_blocks(moved.at(), moved.len(), block, &mut jumps[1]) };
+        Pair { form: &mut form, rust: &mut rust, refusal: 0 }.check(|| format!("a move by {block}"), (moves, moved), 0, &mut count);
+        count.same(&format!("the jumps to block {block}"), jumps, [8 * block; 2]);
+        count.others += 2;
+    }
+    count.report("xoshiro, blocks to 100000")
+}
+
 fn main() {
-    let lists = std::env::args().nth(1).and_then(|n| n.parse().ok()).expect("how many lists of mixed calls an engine");
+    let number = |i| std::env::args().nth(i).and_then(|n| n.parse().ok());
+    let lists = number(1).expect("how many lists of mixed calls an engine");
+    let far = number(2).expect("how many draws to walk");
     let random = &mut Random(20_260_103);
-    let differences = run::<Xoshiro256ppX8>(lists, random) + run::<Philox4x32X8>(lists, random);
+    let mut differences = run::<Xoshiro256ppX8>(lists, random) + run::<Philox4x32X8>(lists, random);
+    differences += walk::<Xoshiro256ppX8>(far, random) + walk::<Philox4x32X8>(far, random) + blocks(random);
     std::process::exit(i32::from(differences != 0));
 }

@@ -1,7 +1,7 @@
 //! Writes the Rust's answers for tests/host. With `calls`: lists of calls on the C library, tests/host/expected.txt. With `paths`: what
 //! examples/paths prints, tests/host/paths.txt. Buffers are given by their digests, 64-bit FNV-1a.
 mod forms;
-use forms::{draws_left, filled, Saved};
+use forms::{draw, draws_left, filled, Saved};
 use tpt_simd_rng::{Philox4x32X8, Rng8, Xoshiro256ppX8};
 
 const EMPTY: u64 = 0xcbf2_9ce4_8422_2325;
@@ -25,6 +25,10 @@ impl Xoshiro {
         self.0.jump_blocks(n);
         line("jump_blocks", n, 0, 0, n.wrapping_mul(8), &[], &self.0.form());
     }
+    fn skip(&mut self, n: u64) {
+        draw(&mut self.0, n);
+        line("skip", n, 0, 0, 0, &[], &self.0.form());
+    }
     fn fill(&mut self, kind: u64, places: u64) {
         let (draws, out) = filled(&mut self.0, kind, places as usize);
         line("fill", kind, places, draws, 0, &out, &self.0.form());
@@ -44,6 +48,10 @@ impl Philox {
     fn seek(&mut self, block: u64) {
         self.0.seek(block);
         self.line("seek", block, 0, 0, &[]);
+    }
+    fn skip(&mut self, n: u64) {
+        draw(&mut self.0, n);
+        self.line("skip", n, 0, 0, &[]);
     }
     fn fill(&mut self, kind: u64, places: u64) {
         let (draws, out) = filled(&mut self.0, kind, places as usize);
@@ -85,6 +93,26 @@ fn calls() {
         g.seek(block);
         g.fill(1 + i as u64 % 6, 8 * (i as u64 % 3) + 1);
         g.fill(1 + i as u64 % 5, 40 + i as u64);
+    }
+    skips();
+}
+
+/// The draws of the skips: made one by one.
+const SKIPS: [u64; 14] = [0, 1, 2, 3, 7, 8, 63, 64, 255, 256, 1000, 4095, 65_537, 1_000_003];
+
+fn skips() {
+    let mut g = Xoshiro::start(7, 5);
+    for (i, n) in SKIPS.into_iter().enumerate() {
+        g.skip(n);
+        g.fill(1 + i as u64 % 6, 24);
+    }
+    let mut g = Philox::start(7, 5);
+    for from in [0, u64::MAX - 1000] {
+        g.seek(from);
+        for (i, n) in SKIPS.into_iter().enumerate() {
+            g.skip(n);
+            g.fill(1 + i as u64 % 6, 8 * (i as u64 % 3 % 2)); // words wait before some of the skips
+        }
     }
 }
 

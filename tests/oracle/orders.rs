@@ -1,9 +1,10 @@
-//! What `deliver` should write, from the Rust: `orders ENGINE SEED BLOCK FIRST KIND COUNT` writes the values' little-endian bytes to standard
-//! output, and FIRST and END to standard error. END is counted, not computed: a copy of the generator is drawn from until it is the same again.
+//! What `deliver` should write, from the Rust: `orders ENGINE SEED BLOCK FIRST KIND COUNT [WORDS]` writes the values' little-endian bytes
+//! to standard output, and FIRST and END to standard error. END is counted, not computed: a copy of the generator is drawn from until it is
+//! the same again. WORDS are the lanes of xoshiro where the order starts, for one so far off that the Rust would not get there.
 mod forms;
-use forms::{filled, Saved};
+use forms::{draw, filled, Saved};
 use std::io::Write;
-use tpt_simd_rng::{Philox4x32X8, Rng8, Xoshiro256ppX8};
+use tpt_simd_rng::{Philox4x32X8, Xoshiro256pp, Xoshiro256ppX8};
 
 const NAMES: [&str; 6] = ["u64", "u32", "f32", "f64", "normal_f32", "normal_f64"];
 
@@ -16,9 +17,9 @@ fn deliver<R: Saved + Clone>(mut rng: R, first: u64, kind: u64, count: usize) {
         let (_, out) = filled(&mut rng, kind, PIECE.min(count - from));
         std::io::stdout().write_all(&out).expect("standard output");
     }
-    let mut end = first;
+    let mut end = u128::from(first);
     while copy.form() != rng.form() {
-        copy.next_u64x8();
+        draw(&mut copy, 1);
         end += 1;
     }
     eprintln!("{first} {end}");
@@ -30,17 +31,21 @@ fn main() {
     let (seed, block, first, count) = (number(1), number(2), number(3), number(5) as usize);
     let kind = NAMES.iter().position(|name| *name == args[4]).map_or_else(|| number(4), |place| place as u64 + 1);
     if args[0] == "xoshiro" {
-        let mut rng = Xoshiro256ppX8::from_seed_block(seed, block);
-        for _ in 0..first {
-            rng.next_u64x8();
-        }
+        let words: Vec<u64> = (6..args.len()).map(number).collect();
+        let rng = if words.is_empty() {
+            let mut rng = Xoshiro256ppX8::from_seed_block(seed, block);
+            draw(&mut rng, first);
+            rng
+        } else {
+            assert_eq!(words.len(), 32);
+            let lane = |i: usize| Xoshiro256pp::from_state([words[4 * i], words[4 * i + 1], words[4 * i + 2], words[4 * i + 3]]);
+            Xoshiro256ppX8::from_lanes(&[0, 1, 2, 3, 4, 5, 6, 7].map(lane))
+        };
         deliver(rng, first, kind, count);
     } else {
         let mut rng = Philox4x32X8::new(seed, block);
         rng.seek(first / 2 * 8);
-        if first % 2 == 1 {
-            rng.next_u64x8();
-        }
+        draw(&mut rng, first % 2);
         deliver(rng, first, kind, count);
     }
 }

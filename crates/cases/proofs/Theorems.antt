@@ -4,7 +4,7 @@ use lib.Ieee.{round}
 use Rattle.floats.specs.units.Unit.{dyadic, unit}
 use Rattle.fills.specs.Kinds.{kindAt}
 use Rattle.words.specs.Words.{shl, rotl}
-use Rattle.xoshiro.specs.scalar.Xoshiro256pp.{output, step}
+use Rattle.xoshiro_steps.specs.Xoshiro256pp.{output, step}
 use Rattle.xoshiro.specs.x8.Calls.{movedBlocks}
 use Rattle.philox.specs.x8.Machine.{sought, holding, grouped, nextOf}
 use Rattle.cases.specs.Claims.{Cases}

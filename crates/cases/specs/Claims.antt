@@ -8,7 +8,7 @@ use Rattle.floats.specs.patterns.Numbers as numbers
 use Rattle.floats.specs.units.Unit.{unit}
 use Rattle.fills.specs.Fill.{drawsFor}
 use Rattle.fills.specs.Kinds.{kindAt}
-use Rattle.xoshiro.specs.scalar.Xoshiro256pp.{State, output, step}
+use Rattle.xoshiro_steps.specs.Xoshiro256pp.{State, output, step}
 use Rattle.xoshiro.specs.x8.Calls.{movedBlocks}
 use Rattle.xoshiro.specs.declared.x8.Xoshiro256ppX8.{Xoshiro256ppX8}
 use Rattle.philox.specs.x8.Machine.{sought, grouped, nextOf}

@@ -1,5 +1,4 @@
--- Draws of Philox by a seek; that a source draws as its engine does; where the words of its draws stand; and the theorems.
-pub mod Philox
+-- That a source draws as its engine does; where the words of its draws stand; and the theorems.
 pub mod Engines
 pub mod Places
 pub mod Theorems

@@ -4,8 +4,6 @@ use xoshiro::x8::Xoshiro256ppX8;
 ghost use mathlib.Core.Path.{_≡_};
 ghost use Rattle.base.specs.Iterate.{iterate};
 ghost use Rattle.fills.specs.FillBytes.{FilledBytes};
-ghost use Rattle.philox.specs.x8.Machine.{fresh, nextOf as philoxNext};
-ghost use Rattle.xoshiro.specs.x8.Calls.{placed, nextOf as xoshiroNext};
 ghost use Rattle.delivery.specs.source.Source.{nextOf, startOf, either};
 
 // A generator of one of the two engines: of xoshiro256++ where `engine` is 1, of Philox where it is any other number. The other one is not used.
@@ -22,38 +20,12 @@ pub struct SourceFill {
     pub source: Source,
 }
 
-// Block `block` of `seed` after `first` draws, one after another: a generator of xoshiro256++ has no shorter way.
-fn xoshiro_at(seed: u64, block: u64, first: u64) -> Xoshiro256ppX8
-    ensures { λ r. ⌜ r ≡ iterate xoshiroNext first (placed seed block .rng) ⌝ }
-{
-    let mut rng = Xoshiro256ppX8::from_seed_block(seed, block).rng;
-    for _ in 0..first {
-        let draw = rng.next_u64x8();
-        rng = draw.rng;
-    }
-    rng
-}
-
-// Stream `stream` of key `seed` after `first` draws. Two draws use eight blocks, so draw `first` is found by a seek, and the second draw of
-// its eight blocks by one draw more.
-fn philox_at(seed: u64, stream: u64, first: u64) -> Philox4x32X8
-    ensures { λ r. ⌜ r ≡ iterate philoxNext first (fresh seed stream) ⌝ }
-{
-    let block = words::wrapping_mul(8, first / 2);
-    let rng = Philox4x32X8::new(seed, stream).seek(block);
-    if first % 2 == 0 {
-        return rng;
-    }
-    let draw = rng.next_u64x8();
-    draw.rng
-}
-
 // The source of an engine, a seed and a block (for Philox a key and a stream) after `first` draws.
 pub fn start(engine: u64, seed: u64, block: u64, first: u64) -> Source
     ensures { λ r. ⌜ r ≡ iterate nextOf first (startOf engine seed block) ⌝ }
 {
     if engine == 1 {
-        let xoshiro = xoshiro_at(seed, block, first);
+        let xoshiro = Xoshiro256ppX8::from_seed_block(seed, block).rng.skip(first);
         let philox = Philox4x32X8::new(0, 0);
         return Source {
             engine,
@@ -67,7 +39,7 @@ pub fn start(engine: u64, seed: u64, block: u64, first: u64) -> Source
         s2: [0; 8],
         s3: [0; 8],
     };
-    let philox = philox_at(seed, block, first);
+    let philox = Philox4x32X8::new(seed, block).skip(first);
     Source {
         engine,
         xoshiro,

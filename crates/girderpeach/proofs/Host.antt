@@ -14,7 +14,7 @@ use Rattle.base.specs.Refused.{unless}
 use Rattle.base.specs.Iterate.{iterate}
 use Rattle.fills.specs.FillBytes.{refusalOf, bytesWritten, bytesDraws, FilledBytes}
 use Rattle.saved.specs.fields.Saved.{Saved, lengthRefusal}
-use Rattle.girderpeach.specs.Host.{answerOf, firstOf, Called, Forms, fillRefusal, HostFill}
+use Rattle.girderpeach.specs.Host.{answerOf, firstOf, Called, Forms, fillRefusal, HostFill, HostSkip}
 use Rattle.girderpeach.proofs.Draws.{few-draws, few-kind-refusals}
 
 -- ---- by the refusal
@@ -76,6 +76,14 @@ pub record Sound {G : Type 0} (H : Forms G) (n : ℕ) : Type 0 where
 
 pub few-form : {G : Type 0} {H : Forms G} {n : ℕ} → Sound H n → (s : List ℕ) {r : ℕ} → r ≡ H .refusal s → r ≤ 5
 few-form S s e = omega (arith, S .few s)
+
+-- ---- a skip of n draws, done
+pub skip-done : {G : Type 0} (H : Forms G) {size : ℕ} → Sound H size → (n : ℕ) {form : List ℕ} {r : ℕ} → r ≡ H .refusal form → r ≡ 0
+    → {g g′ : G} → g ≡ H .read form → g′ ≡ iterate (H .engine .next) n g → {form′ : List ℕ} {r′ : ℕ} → Saved size (H .form g′) form form′ r′
+    → HostSkip H n form (answerOf 0 0) form′
+skip-done {G} H sound n {form} e z eg es S =
+    let made = es ∙ ap (λ (x : G). iterate (H .engine .next) n x) eg in
+    called-done e z refl refl (saved-form S (sound .sized form (sym e ∙ z)) ∙ ap (H .form) made)
 
 -- what a fill of bytes answers fits
 module _ {G : Type 0} {E : Engine G} {k : ℕ} {g g′ : G} {out out′ : List ℕ} {r draws : ℕ} (F : FilledBytes E k g out out′ r draws g′) where

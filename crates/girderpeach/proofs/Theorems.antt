@@ -27,7 +27,7 @@ use Rattle.saved.proofs.philox4x32.Theorems as philox-saved
 use Rattle.saved.proofs.philox4x32.Widths.{words-loaded, words-sought, settled-sought}
 use Rattle.saved.proofs.xoshiro256pp.Theorems as xoshiro-saved
 use Rattle.xoshiro.specs.scalar.Calls.{stateOf}
-use Rattle.xoshiro.specs.scalar.Xoshiro256pp.{allZero}
+use Rattle.xoshiro_steps.specs.Xoshiro256pp.{allZero}
 use Rattle.girderpeach.specs.Claims.{refusal, Answers, wrongLength, zeroLane, wrongMark, noKind, noMultiple}
 use Rattle.girderpeach.specs.Claims.{leftIn, XoshiroRefusals, PhiloxRefusals, SoughtLeft, MostLeft}
 use Rattle.girderpeach.specs.Host.{answerOf, firstOf}
@@ -161,6 +161,8 @@ xoshiro-refusals =
           on-fill 2 (short 256 form) (lane-decided form) (xoshiro-number form) k out _ (omega arith) (omega arith) (c .called .answers);
       jump-blocks = λ n form jumps answer form′ jumps′ c.
           on-form 2 (short 256 form) (lane-decided form) (xoshiro-number form) 0 (omega arith) (c .called .answers);
+      skip = λ n form answer form′ c.
+          on-form 2 (short 256 form) (lane-decided form) (xoshiro-number form) 0 (omega arith) (c .answers);
     }
 
 pub philox-refusals : PhiloxRefusals
@@ -170,6 +172,8 @@ philox-refusals =
       fill = λ form k out answer form′ out′ c.
           on-fill 1 (short 96 form) (mark-decided form) (philox-number form) k out _ (omega arith) (omega arith) (c .called .answers);
       seek = λ n form answer form′ c.
+          on-form 1 (short 96 form) (mark-decided form) (philox-number form) 0 (omega arith) (c .answers);
+      skip = λ n form answer form′ c.
           on-form 1 (short 96 form) (mark-decided form) (philox-number form) 0 (omega arith) (c .answers);
       draws-left = λ form.
           on-form 1 (short 96 form) (mark-decided form) (philox-number form) _ (omega arith) (left-answer form _ refl);

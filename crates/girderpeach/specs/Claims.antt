@@ -15,7 +15,7 @@ use Rattle.saved.specs.philox4x32.Form.{counterIn, markIn, waitingIn}
 use Rattle.saved.specs.xoshiro256pp.Form as xoshiro-form
 use Rattle.saved.specs.xoshiro256pp.Form.{laneIn}
 use Rattle.xoshiro.specs.scalar.Calls.{stateOf}
-use Rattle.xoshiro.specs.scalar.Xoshiro256pp.{allZero}
+use Rattle.xoshiro_steps.specs.Xoshiro256pp.{allZero}
 use Rattle.girderpeach.specs.Philox as philox
 use Rattle.girderpeach.specs.Xoshiro as xoshiro
 
@@ -69,6 +69,8 @@ pub record XoshiroRefusals : Type 0 where
       → Answers answer (bytesDraws k (length out)) (wrongLength 256 form ∷ zeroLane form ∷ noKind k ∷ noMultiple k out ∷ [])
   pub jump-blocks : (n : ℕ) (form : List ℕ) (jumps : ℕ) (answer : ℤ) (form′ : List ℕ) (jumps′ : ℕ)
       → xoshiro.JumpedBlocks n form jumps answer form′ jumps′ → Answers answer 0 (wrongLength 256 form ∷ zeroLane form ∷ [])
+  pub skip : (n : ℕ) (form : List ℕ) (answer : ℤ) (form′ : List ℕ) → xoshiro.Skipped n form answer form′
+      → Answers answer 0 (wrongLength 256 form ∷ zeroLane form ∷ [])
 
 pub record PhiloxRefusals : Type 0 where
   pub new : (seed stream : ℕ) (form : List ℕ) (answer : ℤ) (form′ : List ℕ) → philox.New seed stream form answer form′
@@ -76,6 +78,8 @@ pub record PhiloxRefusals : Type 0 where
   pub fill : (form : List ℕ) (k : ℕ) (out : List ℕ) (answer : ℤ) (form′ out′ : List ℕ) → philox.Filled form k out answer form′ out′
       → Answers answer (bytesDraws k (length out)) (wrongLength 96 form ∷ wrongMark form ∷ noKind k ∷ noMultiple k out ∷ [])
   pub seek : (n : ℕ) (form : List ℕ) (answer : ℤ) (form′ : List ℕ) → philox.Sought n form answer form′
+      → Answers answer 0 (wrongLength 96 form ∷ wrongMark form ∷ [])
+  pub skip : (n : ℕ) (form : List ℕ) (answer : ℤ) (form′ : List ℕ) → philox.Skipped n form answer form′
       → Answers answer 0 (wrongLength 96 form ∷ wrongMark form ∷ [])
   pub draws-left : (form : List ℕ) → Answers (philox.drawsLeft form) (leftIn form) (wrongLength 96 form ∷ wrongMark form ∷ [])
 

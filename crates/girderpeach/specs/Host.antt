@@ -41,3 +41,7 @@ fillRefusal H form k out = firstOf (H .refusal form) (refusalOf k (length out))
 pub record HostFill {G : Type 0} (H : Forms G) (form : List ℕ) (k : ℕ) (out : List ℕ) (answer : ℤ) (form′ out′ : List ℕ) : Type 0 where
   pub called : Called (fillRefusal H form k out) (bytesDraws k (length out)) (H .form (iterate (H .engine .next) (bytesDraws k (length out)) (H .read form))) form form′ answer
   pub writes : out′ ≡ unless (fillRefusal H form k out) (bytesWritten k (wordsFrom (H .engine) (H .read form)) (length out)) out
+
+-- A skip of n draws: accepted, it answers 0, and the form is that of the state after them.
+abbrev pub HostSkip : {G : Type 0} → Forms G → ℕ → List ℕ → ℤ → List ℕ → Type 0
+HostSkip H n form answer form′ = Called (H .refusal form) 0 (H .form (iterate (H .engine .next) n (H .read form))) form form′ answer

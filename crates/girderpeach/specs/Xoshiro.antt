@@ -9,7 +9,7 @@ use Rattle.saved.specs.fields.Saved.{lengthRefusal}
 use Rattle.saved.specs.xoshiro256pp.Form.{layout, formOf, loaded}
 use Rattle.xoshiro.specs.x8.Calls.{engine, placed, movedBlocks}
 use Rattle.xoshiro.specs.declared.x8.Xoshiro256ppX8.{Xoshiro256ppX8}
-use Rattle.girderpeach.specs.Host.{Called, Forms, HostFill}
+use Rattle.girderpeach.specs.Host.{Called, Forms, HostFill, HostSkip}
 
 abbrev pub forms : Forms Xoshiro256ppX8
 forms = record { engine = engine; refusal = λ s. loaded s .refusal; read = λ s. loaded s .rng; form = formOf }
@@ -27,3 +27,7 @@ pub record New (seed block : ℕ) (form : List ℕ) (jumps : ℕ) (answer : ℤ)
 pub record JumpedBlocks (n : ℕ) (form : List ℕ) (jumps : ℕ) (answer : ℤ) (form′ : List ℕ) (jumps′ : ℕ) : Type 0 where
   pub called : Called (loaded form .refusal) 0 (formOf (movedBlocks n (loaded form .rng) .rng)) form form′ answer
   pub counts : jumps′ ≡ unless (loaded form .refusal) (movedBlocks n (loaded form .rng) .jumps) jumps
+
+-- gp_xoshiro_skip
+abbrev pub Skipped : ℕ → List ℕ → ℤ → List ℕ → Type 0
+Skipped = HostSkip forms

@@ -5,7 +5,7 @@ use saved::xoshiro256pp;
 ghost use mathlib.Core.Path.{_≡_};
 ghost use Prim.Native.Nat.{_≤_, _<_, _^_};
 ghost use Rattle.girderpeach.specs.Host.{answerOf};
-ghost use Rattle.girderpeach.specs.Xoshiro.{Filled, New, JumpedBlocks};
+ghost use Rattle.girderpeach.specs.Xoshiro.{Filled, New, JumpedBlocks, Skipped};
 ghost use Rattle.girderpeach.specs.Philox as philox;
 
 // The answer of a call: its value, or minus its refusal.
@@ -61,7 +61,7 @@ pub extern "C" fn gp_philox_fill(form: &mut [u8], kind: u64, out: &mut [u8]) -> 
 pub extern "C" fn gp_xoshiro_new(seed: u64, block: u64, form: &mut [u8], jumps: &mut u64) -> i64
     ensures { λ r. ⌜ New seed block (now (form .entry)) (now (jumps .entry)) r (now (form .exit)) (now (jumps .exit)) ⌝ }
 {
-    // tested first: a block far off takes long to reach
+    // tested first: a refused call makes no jumps
     if form.len() != 256 {
         return answer_of(1, 0);
     }
@@ -89,6 +89,21 @@ pub extern "C" fn gp_xoshiro_jump_blocks(form: &mut [u8], n: u64, jumps: &mut u6
     0
 }
 
+// Moves the form on by `draws` draws, as if they had been made.
+#[no_mangle]
+pub extern "C" fn gp_xoshiro_skip(form: &mut [u8], draws: u64) -> i64
+    ensures { λ r. ⌜ Skipped draws (now (form .entry)) r (now (form .exit)) ⌝ }
+{
+    let g = xoshiro256pp::load(form);
+    if g.refusal != 0 {
+        return answer_of(g.refusal, 0);
+    }
+    let rng = g.rng;
+    let skipped = rng.skip(draws);
+    xoshiro256pp::save(skipped, form);
+    0
+}
+
 // Writes the form of stream `stream` of key `seed`, counter 0.
 #[no_mangle]
 pub extern "C" fn gp_philox_new(seed: u64, stream: u64, form: &mut [u8]) -> i64
@@ -111,6 +126,21 @@ pub extern "C" fn gp_philox_seek(form: &mut [u8], block: u64) -> i64
     let rng = g.rng;
     let after = rng.seek(block);
     philox4x32::save(after, form);
+    0
+}
+
+// Moves the form on by `draws` draws, as if they had been made.
+#[no_mangle]
+pub extern "C" fn gp_philox_skip(form: &mut [u8], draws: u64) -> i64
+    ensures { λ r. ⌜ philox.Skipped draws (now (form .entry)) r (now (form .exit)) ⌝ }
+{
+    let g = philox4x32::load(form);
+    if g.refusal != 0 {
+        return answer_of(g.refusal, 0);
+    }
+    let rng = g.rng;
+    let skipped = rng.skip(draws);
+    philox4x32::save(skipped, form);
     0
 }
 

@@ -8,7 +8,7 @@ ghost use mathlib.Core.Path.{_≡_};
 ghost use Rattle.fills.specs.Fill.{Filled};
 ghost use Rattle.fills.specs.FillBytes.{FilledBytes};
 ghost use Rattle.fills.specs.Kinds.{u64s, u32s, f32s, f64s, normalF32s, normalF64s};
-ghost use Rattle.xoshiro.specs.scalar.Xoshiro256pp.{jumpPoly, longJumpPoly};
+ghost use Rattle.xoshiro_steps.specs.Xoshiro256pp.{jumpPoly, longJumpPoly};
 ghost use Rattle.xoshiro.specs.scalar.Calls.{jumpedBy};
 ghost use Rattle.xoshiro.specs.x8.Calls.{drawn, placed, movedBlocks, engine};
 ghost use Rattle.xoshiro.specs.x8.Lanes.{ofRows};

@@ -1,7 +1,8 @@
 // Philox4x32-10, eight blocks at a time (Philox4x32X8 of the Rust's philox.rs).
 use crate::block;
 ghost use mathlib.Core.Path.{_≡_};
-ghost use Rattle.philox.specs.x8.Machine.{joinOf, fresh, sought, grouped, drawn, leftOf};
+ghost use Prim.Native.Nat.{_+_, _*_, _%_, _^_, _<_};
+ghost use Rattle.philox.specs.x8.Machine.{joinOf, fresh, sought, grouped, drawn, skipped, leftOf};
 
 // Eight words from their halves.
 fn joined(lo: [u32; 8], hi: [u32; 8]) -> [u64; 8]
@@ -37,6 +38,26 @@ pub struct Blocks {
     pub w2: [u32; 8],
     pub w3: [u32; 8],
     pub rng: Philox4x32X8,
+}
+
+// The counter after `n` groups of eight blocks; with what its type says of the one before.
+fn groups_on(counter: u64, n: u64) -> u64
+    ensures { λ r. ⌜ (r ≡ (counter + 8 * n) % 2 ^ 64) × (counter < 2 ^ 64) ⌝ }
+{
+    std::num::wrapping_add_u64(counter, words::wrapping_mul(8, n))
+}
+
+// The generator after `n` draws from the counter on, where no words wait. Two draws use eight blocks, so that a seek takes the place of all
+// but an odd one.
+fn skip_groups(g: Philox4x32X8, n: u64) -> Philox4x32X8
+    ensures { λ r. ⌜ r ≡ skipped n (sought g (g .counter)) ⌝ }
+{
+    let rng = g.seek(groups_on(g.counter, n / 2));
+    if n % 2 == 0 {
+        return rng;
+    }
+    let draw = rng.next_u64x8();
+    draw.rng
 }
 
 impl Philox4x32X8 {
@@ -132,6 +153,20 @@ impl Philox4x32X8 {
             pending,
         };
         Draw { words, rng }
+    }
+
+    // The generator after `n` draws.
+    pub fn skip(self, n: u64) -> Self
+        ensures { λ r. ⌜ r ≡ skipped n self ⌝ }
+    {
+        if n == 0 {
+            return self;
+        }
+        if self.waiting {
+            // the words that wait are the first draw
+            return skip_groups(self, n - 1);
+        }
+        skip_groups(self, n)
     }
 
     // The draws that the whole groups before counter 2^64 still hold, and the draw that waits.

@@ -2,3 +2,4 @@ pub mod splitmix64
 pub mod scalar
 pub mod rows
 pub mod x8
+pub mod powers

@@ -1,3 +1,3 @@
-pub mod Xoshiro256pp
+pub mod Seeded
 pub mod Calls
 pub mod Claims

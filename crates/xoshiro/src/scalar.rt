@@ -1,11 +1,14 @@
 // Scalar xoshiro256++ (Xoshiro256pp of the Rust's xoshiro.rs).
+use crate::powers;
 use crate::splitmix64::SplitMix64;
 ghost use mathlib.Core.List.{[], _∷_};
 ghost use mathlib.Core.Path.{_≡_};
-ghost use Prim.Native.Nat.{_/_, _%_, _^_, _<_};
+ghost use Prim.Native.Nat.{ℕ, _*_, _/_, _%_, _^_, _<_};
 ghost use Rattle.base.specs.Quad.{quadOf, listOf};
-ghost use Rattle.xoshiro.specs.scalar.Xoshiro256pp.{step, plus, highestBelow, highestOf, allZero, jumpPoly, longJumpPoly};
-ghost use Rattle.xoshiro.specs.scalar.Calls.{checked, seededBy, drawn, jumpedBy, jumpsMade};
+ghost use Rattle.xoshiro_steps.specs.Xoshiro256pp.{step, plus, highestBelow, highestOf, allZero, jumpPoly, longJumpPoly};
+ghost use Rattle.xoshiro_steps.specs.Claims.{Words};
+ghost use Rattle.xoshiro.specs.powers.Powers.{Powers};
+ghost use Rattle.xoshiro.specs.scalar.Calls.{stateOf, checked, seededBy, drawn, jumpedBy, jumpsMade, stepsMade};
 
 // The jump polynomials, word 0 first.
 const JUMP: [u64; 4] = [
@@ -135,6 +138,39 @@ fn apply_jump(rng: Xoshiro256pp, poly: [u64; 4], top: usize) -> Jump
     }
 }
 
+// A word, with what its type says of it.
+fn word(x: u64) -> u64
+    ensures { λ r. ⌜ (r ≡ x) × (r < 2 ^ 64) ⌝ }
+{
+    x
+}
+
+// A generator, with what its type says of its words.
+fn known(rng: Xoshiro256pp) -> Xoshiro256pp
+    ensures { λ r. ⌜ (r ≡ rng) × Words (stateOf r) ⌝ }
+{
+    let s = rng.s;
+    Xoshiro256pp {
+        s: [word(s[0]), word(s[1]), word(s[2]), word(s[3])],
+    }
+}
+
+// The generator after a jump by entry j of `table` for each set bit j of `n`.
+fn leaps(rng: Xoshiro256pp, n: u64, table: &[u64; 256]) -> Xoshiro256pp
+    ensures { λ r. ⌜ Words (stateOf rng) ⌝ }
+    ensures { λ r. ⌜ ((e : ℕ) → Powers e (now (table .entry)) → r ≡ stepsMade (n * 2 ^ e) rng) ⌝ }
+{
+    let mut at = known(rng);
+    for j in 0..64 {
+        if bit(n, j) != 0 {
+            let poly = powers::entry(table, j);
+            let next = apply_jump(at, poly, highest(poly));
+            at = next.rng;
+        }
+    }
+    at
+}
+
 impl Xoshiro256pp {
     // The generator with this state. Refused with 3 where all four words are zero.
     pub fn from_state(s: [u64; 4]) -> Answer
@@ -188,7 +224,7 @@ impl Xoshiro256pp {
         }
     }
 
-    // The sum of the states that the bits of JUMP select, which is the state after 2^128 steps (the crate xoshiro_distance); and how far the
+    // The sum of the states that the bits of JUMP select, which is the state after 2^128 steps (the crate xoshiro_steps); and how far the
     // walk over these went.
     pub fn jump(self) -> Jump
         ensures { λ r. ⌜ r ≡ jumpedBy jumpPoly self ⌝ }
@@ -205,15 +241,23 @@ impl Xoshiro256pp {
         apply_jump(self, poly, highest(poly))
     }
 
-    // `n` jumps, one after another.
+    // `n` jumps.
     pub fn jumps(self, n: u64) -> Self
         ensures { λ r. ⌜ r ≡ jumpsMade n self ⌝ }
     {
-        let mut rng = self;
-        for _ in 0..n {
-            let next = rng.jump();
-            rng = next.rng;
+        // a start at block 0 makes none, and wants no table
+        if n == 0 {
+            return self;
         }
-        rng
+        let by_jumps = powers::jumps();
+        leaps(self, n, &by_jumps)
+    }
+
+    // `n` steps.
+    pub fn steps(self, n: u64) -> Self
+        ensures { λ r. ⌜ r ≡ stepsMade n self ⌝ }
+    {
+        let by_steps = powers::steps();
+        leaps(self, n, &by_steps)
     }
 }

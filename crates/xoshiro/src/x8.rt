@@ -6,7 +6,7 @@ use crate::scalar::Xoshiro256pp;
 ghost use mathlib.Core.Path.{_≡_};
 ghost use Rattle.base.specs.Every.{every};
 ghost use Rattle.xoshiro.specs.x8.Lanes.{rowsIn, ofRows};
-ghost use Rattle.xoshiro.specs.x8.Calls.{isValid, ofLanes, fromLanes, laneCall, drawn, placed, movedBlocks};
+ghost use Rattle.xoshiro.specs.x8.Calls.{isValid, ofLanes, fromLanes, laneCall, drawn, skipped, placed, movedBlocks};
 
 // Four rows of eight words: row k holds word k of each lane's state, and lane i is column i.
 pub struct Xoshiro256ppX8 {
@@ -164,6 +164,18 @@ impl Xoshiro256ppX8 {
         }
         let rng = of_lanes(lanes);
         Placed { rng, jumps }
+    }
+
+    // The generator after `n` draws: `n` steps of each lane.
+    pub fn skip(self, n: u64) -> Self
+        ensures { λ r. ⌜ r ≡ skipped n self ⌝ }
+    {
+        let none = Xoshiro256pp { s: [0; 4] };
+        let mut lanes = [none; 8];
+        for i in 0..8 {
+            lanes[i] = self.lane(i).rng.steps(n);
+        }
+        of_lanes(lanes)
     }
 
     // One draw: a step of all eight lanes.

@@ -15,7 +15,8 @@ use Rattle.fills.specs.Kinds.{f64s}
 use Rattle.history.specs.xoshiro256pp.Calls.{Call, draw, fill, bytes, move}
 use Rattle.history.specs.xoshiro256pp.History.{D, J, wordsAt, History}
 use Rattle.history.proofs.xoshiro256pp.Theorems.{draws-add-up}
-use Rattle.xoshiro.specs.scalar.Xoshiro256pp.{steps, jumps, seeded}
+use Rattle.xoshiro_steps.specs.Xoshiro256pp.{steps, jumps}
+use Rattle.xoshiro.specs.scalar.Seeded.{seeded}
 use Rattle.xoshiro.specs.x8.Calls.{engine, drawn, placed, movedBlocks, blockJumps}
 use Rattle.xoshiro.specs.declared.x8.Draw.{Draw}
 use Rattle.xoshiro.specs.declared.x8.Placed.{Placed}

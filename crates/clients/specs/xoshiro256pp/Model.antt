@@ -10,7 +10,8 @@ use Rattle.fills.specs.Fill.{drawsFor, element}
 use Rattle.fills.specs.FillBytes.{refusalOf, bytesWritten, bytesDraws}
 use Rattle.fills.specs.Kinds.{f64s}
 use Rattle.history.specs.xoshiro256pp.History.{wordsAt}
-use Rattle.xoshiro.specs.scalar.Xoshiro256pp.{steps, jumps, seeded}
+use Rattle.xoshiro_steps.specs.Xoshiro256pp.{steps, jumps}
+use Rattle.xoshiro.specs.scalar.Seeded.{seeded}
 use Rattle.xoshiro.specs.x8.Calls.{blockJumps}
 use Rattle.xoshiro.specs.x8.Lanes.{laneOf}
 use Rattle.clients.specs.declared.xoshiro256pp.Outcome.{Outcome}

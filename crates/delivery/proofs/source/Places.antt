@@ -17,14 +17,14 @@ use Rattle.philox.specs.block.Philox.{block}
 use Rattle.philox.specs.x8.Machine.{blockAt, fresh, sought, holding}
 use Rattle.philox.specs.x8.Machine.{lowerAt, upperAt, wordsOf as philoxWords, nextOf as philoxNext}
 use Rattle.philox.specs.declared.x8.Philox4x32X8.{Philox4x32X8}
-use Rattle.xoshiro.specs.scalar.Xoshiro256pp.{output, steps}
+use Rattle.philox.proofs.x8.Skipping.{even-draws}
+use Rattle.xoshiro_steps.specs.Xoshiro256pp.{output, steps}
 use Rattle.xoshiro.specs.x8.Calls.{placed, wordsOf as xoshiroWords, nextOf as xoshiroNext}
-use Rattle.xoshiro.proofs.x8.Draws.{lane-draws, word-at}
-use Rattle.xoshiro.proofs.x8.Theorems.{lanes-start}
+use Rattle.xoshiro.proofs.x8.Draws.{word-at}
+use Rattle.xoshiro.proofs.x8.Theorems.{lanes-skip, lanes-start}
 use Rattle.delivery.specs.source.Source.{wordsOf, nextOf, startOf}
 use Rattle.delivery.specs.source.Places.{stepped, encrypted, lower, upper, wordAt, placeOf}
 use Rattle.delivery.proofs.source.Engines.{drawn-1, drawn-2}
-use Rattle.delivery.proofs.source.Philox.{even-draws}
 
 -- ---- the place by the test of the engine
 module _ (engine b i j : ℕ) where
@@ -61,7 +61,7 @@ module _ (seed stream i j : ℕ) (h : j < 8) where
 
   even-at : iterate philoxNext (2 * (i / 2)) f ≡ sought f n
   unfolding sought fresh
-  even-at = even-draws (fresh seed stream) (i / 2)
+  even-at = even-draws (fresh seed stream) 0 (i / 2) (omega arith) ∙ ap (sought f) (omega arith)
 
   same-block : blockAt f (n + j) ≡ at ((8 * (i / 2) + j) % 2 ^ 64)
   unfolding fresh
@@ -102,7 +102,7 @@ pub stepped-word : (seed b i j : ℕ) → j < 8
 unfolding wordAt
 stepped-word seed b i j h =
     word-at (iterate xoshiroNext i (placed seed b .rng)) j h
-    ∙ ap output (lane-draws i (placed seed b .rng) j h ∙ ap (steps i) (lanes-start seed b j h))
+    ∙ ap output (lanes-skip i (placed seed b .rng) j h ∙ ap (steps i) (lanes-start seed b j h))
 
 pub at-place : (engine seed b i j : ℕ) → j < 8
     → getD (wordsOf (iterate nextOf i (startOf engine seed b))) j 0 ≡ wordAt seed (placeOf engine b i j)

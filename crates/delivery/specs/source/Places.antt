@@ -4,7 +4,8 @@ use Prim.Native.Nat.{ℕ, _+_, _*_, _/_, _%_, _^_}
 use lib.Dec.{eqb}
 use Rattle.base.specs.Quad.{Quad}
 use Rattle.philox.specs.block.Philox.{block}
-use Rattle.xoshiro.specs.scalar.Xoshiro256pp.{output, steps, jumps, seeded}
+use Rattle.xoshiro_steps.specs.Xoshiro256pp.{output, steps, jumps}
+use Rattle.xoshiro.specs.scalar.Seeded.{seeded}
 
 -- a word of xoshiro256++ stands so many jumps after the seed's state, and then so many steps; one of Philox in a block of a stream of the
 -- key, in its lower two words or, where `half` is not 0, in its upper two

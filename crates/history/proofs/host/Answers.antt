@@ -8,7 +8,7 @@ use Rattle.base.specs.Engine.{wordsFrom}
 use Rattle.base.specs.Refused.{unless}
 use Rattle.base.specs.Iterate.{iterate}
 use Rattle.fills.specs.FillBytes.{refusalOf, bytesWritten, bytesDraws}
-use Rattle.girderpeach.specs.Host.{answerOf, firstOf, Called, Forms, HostFill}
+use Rattle.girderpeach.specs.Host.{answerOf, firstOf, Called, Forms, HostFill, HostSkip}
 use Rattle.history.specs.host.Answers.{ifAccepted, answered, RightAnswer}
 
 -- ---- any call
@@ -58,3 +58,17 @@ module _ {G : Type 0} {H : Forms G} {form : List ℕ} {k : ℕ} {before : List �
       go : (a : ℤ) → ifAccepted a (H .form (iterate (H .engine .next) (bytesDraws k (length before)) g)) form ≡ H .form (iterate (H .engine .next) (ifAccepted a (bytesDraws k (length before)) 0) g)
       go (pos n) = refl
       go (negsuc n) = e
+
+-- ---- a skip, where the form is accepted, and is that of the generator g
+module _ {G : Type 0} (H : Forms G) (n : ℕ) {form : List ℕ} {answer : ℤ} {form′ : List ℕ} (S : HostSkip H n form answer form′)
+    (ok : H .refusal form ≡ 0) where
+  pub skip-answers : answer ≡ pos 0
+  skip-answers = S .answers ∙ ap (λ (r : ℕ). answerOf r 0) ok
+
+  pub skip-counted : ifAccepted answer n 0 ≡ n
+  skip-counted = ap (λ (x : ℤ). ifAccepted x n 0) skip-answers
+
+  pub skip-leaves : {g : G} → H .read form ≡ g → form′ ≡ H .form (iterate (H .engine .next) n g)
+  skip-leaves {g} read =
+      S .saves ∙ ap (λ (r : ℕ). unless r (H .form (iterate (H .engine .next) n (H .read form))) form) ok
+      ∙ ap (λ (x : G). H .form (iterate (H .engine .next) n x)) read

@@ -1,7 +1,7 @@
 -- The lists of a host's calls on the form of a Philox generator: the claim of specs/host/Philox.antt. A form is that of the generator that the tally
 -- stands for, which every call reads back. Assumes nothing.
 use mathlib.Core.List.{List, _∷_}
-use mathlib.Core.Path.{_≡_, refl, ap, _∙_}
+use mathlib.Core.Path.{_≡_, refl, sym, ap, _∙_}
 use Prim.Native.Nat.{ℕ}
 use native.Mathlib.Omega.{arith}
 use lib.IntN.{pos}
@@ -12,7 +12,7 @@ use Rattle.base.proofs.Iterate.{iterate-keeps}
 use Rattle.base.proofs.Lists.{along}
 use Rattle.fills.specs.FillBytes.{bytesDraws}
 use Rattle.girderpeach.specs.Host.{answerOf}
-use Rattle.girderpeach.specs.Philox.{drawsLeft}
+use Rattle.girderpeach.specs.Philox.{forms, drawsLeft}
 use Rattle.history.specs.philox4x32.History.{Tally, leftAt, start, oneDraw}
 use Rattle.history.proofs.philox4x32.Tallied.{tallied, tallied-start, tallied-words, tallied-draws, tallied-seek, tallied-left}
 use Rattle.history.proofs.philox4x32.Theorems.{draws-count}
@@ -24,9 +24,9 @@ use Rattle.saved.proofs.philox4x32.Widths.{words-fresh, words-next, words-sough
 use Rattle.philox.specs.x8.Machine.{wordsOf, nextOf, sought, leftOf}
 use Rattle.philox.specs.declared.x8.Philox4x32X8.{Philox4x32X8}
 use Rattle.history.specs.host.Answers.{ifAccepted}
-use Rattle.history.specs.host.Philox.{Call, fill, seek, Step, formIn, formAfter, Run}
+use Rattle.history.specs.host.Philox.{Call, fill, seek, skip, Step, formIn, formAfter, Run}
 use Rattle.history.specs.host.Philox.{tallyAfter, tally, reportedAfter, Right, History, HostAddsUp}
-use Rattle.history.proofs.host.Answers.{saved, counted, right, leaves}
+use Rattle.history.proofs.host.Answers.{saved, counted, right, leaves, skip-answers, skip-counted, skip-leaves}
 
 -- a form keeps all of such a generator: its words fit, and none are left that don't wait. A draw's generator is one again
 record Kept (g : Philox4x32X8) : Type 0 where
@@ -63,16 +63,23 @@ module _ (g₀ : Philox4x32X8) (t : Tally) {form : List ℕ} (h : Held g₀ t fo
   stands (seek n u64 answer form′) C =
       held (tallied-seek g₀ t n u64) (record { words = words-sought _ n u64 (h .kept .words); settles = settled-sought _ n })
       (C .saves ∙ ap (λ (x : Loaded). unless (x .refusal) (formOf (sought (x .rng) n)) form) (read-back h))
+  stands (skip n answer form′) S =
+      let m : ℕ = ifAccepted answer n 0 in
+      let made = sym (skip-counted forms n S ok) in
+      let left = skip-leaves forms n S ok read ∙ ap (λ (k : ℕ). formOf (iterate nextOf k (tallied g₀ t))) made in
+      held (tallied-draws m g₀ t) (iterate-keeps Kept nextOf kept-next m _ (h .kept)) left
 
   is-right : (c : Call) → Step form c → Right g₀ t form c
   is-right (fill k before after answer form′) F =
       right F ok read _ (λ m. ap wordsOf (tallied-draws m g₀ t) ∙ tallied-words g₀ (iterate oneDraw m t))
   is-right (seek n u64 answer form′) C = C .answers ∙ ap (λ (x : Loaded). answerOf (x .refusal) 0) (read-back h)
+  is-right (skip n answer form′) S = skip-answers forms n S ok
 
   counts : {m : ℕ} (c : Call) → Step form c → m ≡ t .d → reportedAfter m c ≡ tallyAfter t c .d
   counts (fill k before after answer form′) F e =
       omega (arith, e, counted (F .called), draws-count (ifAccepted answer (bytesDraws k (length before)) 0) t .0)
   counts (seek n u64 answer form′) C e = refl
+  counts (skip n answer form′) S e = omega (arith, e, draws-count (ifAccepted answer n 0) t .0)
 
   tells-left : drawsLeft form ≡ pos (leftAt t)
   tells-left = ap (λ (x : Loaded). answerOf (x .refusal) (leftOf (x .rng))) (read-back h) ∙ ap pos (tallied-left g₀ t)

@@ -22,5 +22,7 @@ host-ships =
       philox-fill = λ κs a r e. (refl, refl);
       xoshiro-jump-blocks = λ κs a r e. (refl, refl);
       philox-seek = λ κs a r e u64. (refl, refl);
+      xoshiro-skip = λ κs a r e. (refl, refl);
+      philox-skip = λ κs a r e. (refl, refl);
       philox-draws-left = λ κs a r e. (refl, refl);
     }

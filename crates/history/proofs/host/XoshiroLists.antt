@@ -14,7 +14,9 @@ use Rattle.base.proofs.Iterate.{iterate-keeps}
 use Rattle.base.proofs.Lists.{along}
 use Rattle.base.proofs.Quad.{rowsOf-same}
 use Rattle.girderpeach.specs.Host.{answerOf}
-use Rattle.xoshiro.specs.scalar.Xoshiro256pp.{State, steps, seeded}
+use Rattle.girderpeach.specs.Xoshiro.{forms}
+use Rattle.xoshiro_steps.specs.Xoshiro256pp.{State, steps}
+use Rattle.xoshiro.specs.scalar.Seeded.{seeded}
 use Rattle.history.proofs.xoshiro256pp.Lanes.{At, at-same, at-draws, at-move, words-at}
 use Rattle.saved.specs.xoshiro256pp.Form.{formOf, loaded}
 use Rattle.saved.proofs.xoshiro256pp.Sound.{Sound, sound-placed, sound-next, sound-moved}
@@ -24,11 +26,11 @@ use Rattle.xoshiro.specs.x8.Lanes.{laneOf, ofRows, ofStates}
 use Rattle.xoshiro.specs.declared.x8.LanesAnswer.{LanesAnswer}
 use Rattle.xoshiro.specs.declared.x8.Xoshiro256ppX8.{Xoshiro256ppX8}
 use Rattle.xoshiro.proofs.x8.Theorems.{lanes-start}
-use Rattle.xoshiro_distance.proofs.Theorems.{seed-distance}
+use Rattle.xoshiro.proofs.scalar.Theorems.{seed-distance}
 use Rattle.history.specs.host.Answers.{ifAccepted}
-use Rattle.history.specs.host.Xoshiro.{Call, fill, move, Step, formIn, formAfter, Run, drawsReported, jumpsReported}
+use Rattle.history.specs.host.Xoshiro.{Call, fill, move, skip, Step, formIn, formAfter, Run, drawsReported, jumpsReported}
 use Rattle.history.specs.host.Xoshiro.{drawsCounted, jumpsCounted, D, J, standing, Right, History, HostAddsUp}
-use Rattle.history.proofs.host.Answers.{chosen, saved, counted, right, leaves}
+use Rattle.history.proofs.host.Answers.{chosen, saved, counted, right, leaves, skip-answers, skip-counted, skip-leaves}
 
 -- a form reads no more of a generator than its lanes
 lanes-form : (g : Xoshiro256ppX8) → formOf g ≡ formOf (ofRows (rowsOf (laneOf g)))
@@ -94,6 +96,14 @@ one {d = d} {j} {form} h (move n before after answer form′) F =
       jumps = ap (λ (x : ℕ). ifAccepted answer x 0) count;
       right = record { answers = answers; counts = count };
       held = held-same (held-move h n new) (sym (add-zero d)) (ap (λ (x : ℤ). j + ifAccepted x (blockJumps n) 0) (sym answers)) refl;
+    }
+one {d = d} {j} h (skip n answer form′) S =
+    let made = sym (skip-counted forms n S (ok h)) in
+    record {
+      draws = refl;
+      jumps = refl;
+      right = skip-answers forms n S (ok h);
+      held = held-same (held-draws h n (skip-leaves forms n S (ok h) (read h))) (ap (λ (m : ℕ). d + m) made) (sym (add-zero j)) refl;
     }
 
 held-new : (seed b : ℕ) {s₀ : List ℕ} → s₀ ≡ formOf (placed seed b .rng) → Held (seeded seed) 0 (J b []) s₀

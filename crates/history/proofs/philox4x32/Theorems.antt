@@ -15,7 +15,7 @@ use Rattle.philox.specs.x8.Machine.{lowerAt, upperAt, wordsOf, nextOf, drawn, g
 use Rattle.philox.specs.declared.x8.Blocks.{Blocks}
 use Rattle.philox.specs.declared.x8.Draw.{Draw}
 use Rattle.philox.specs.declared.x8.Philox4x32X8.{Philox4x32X8}
-use Rattle.history.specs.philox4x32.Calls.{Call, draw, group, seek, fill, bytes, many, Step, rngOf, rngAfter, Run}
+use Rattle.history.specs.philox4x32.Calls.{Call, draw, group, seek, fill, bytes, many, skip, Step, rngOf, rngAfter, Run}
 use Rattle.history.specs.philox4x32.History.{Tally, waitsOf, start, oneDraw, tallyAfter, tally, reportedAfter}
 use Rattle.history.specs.philox4x32.History.{reported, wordsAt, Right, AllRight, DrawsAddUp, DrawsCount, RowsInLists}
 use Rattle.history.specs.philox4x32.Shipped.{PhiloxShips}
@@ -50,6 +50,7 @@ module _ (s₀ : Philox4x32X8) (t : Tally) {s : Philox4x32X8} (e : s ≡ tallied
   stands (fill K before after r) h = h .state ∙ drawn-on (r .draws) _ (h .count)
   stands (bytes k before after r) h = h .state ∙ drawn-on (r .draws) _ (draws-made h)
   stands (many at m before after draws rng) h = h .state ∙ drawn-on m m refl
+  stands (skip n rng) h = h ∙ drawn-on n n refl
 
   right : (c : Call) → Step s c → Right s₀ t s c
   unfolding drawn grouped sought tallied iterate
@@ -66,6 +67,7 @@ module _ (s₀ : Philox4x32X8) (t : Tally) {s : Philox4x32X8} (e : s ≡ tallied
   right (fill K before after r) h = right-fill _ drawn-words h
   right (bytes k before after r) h = right-bytes h _ drawn-words
   right (many at m before after draws rng) h = right-draws _ drawn-words h
+  right (skip n rng) h = tt
 
   -- what the call reported is what is counted, where m were reported before it
   counts : {m : ℕ} (c : Call) → Step s c → m ≡ t .d → reportedAfter m c ≡ tallyAfter t c .d
@@ -79,6 +81,7 @@ module _ (s₀ : Philox4x32X8) (t : Tally) {s : Philox4x32X8} (e : s ≡ tallied
       counted : (l n : ℕ) → l ≡ n → m + l ≡ iterate oneDraw n t .d
       counted l n e′ = omega (arith, q, e′, draws-count n t .0)
   counts (many at m before after draws rng) h q = omega (arith, q, h .count, draws-count m t .0)
+  counts (skip n rng) h q = omega (arith, q, draws-count n t .0)
 
 -- ---- a whole list
 record Whole (s₀ : Philox4x32X8) (calls : List Call) : Type 0 where
@@ -123,6 +126,7 @@ philox-ships =
       draws-draw = λ κs a r e. (refl, refl);
       blocks = λ κs a r e. (refl, refl);
       seeks = λ κs a r e u64. (refl, refl);
+      skips = λ κs a r e. (refl, refl);
       draws-left = λ κs a r e. (refl, refl);
       fill-u64 = λ κs a r e. (refl, refl);
       fill-u32 = λ κs a r e. (refl, refl);

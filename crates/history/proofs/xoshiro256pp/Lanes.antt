@@ -6,13 +6,13 @@ use lib.ListN.{getD}
 use Rattle.base.specs.Iterate.{iterate}
 use Rattle.base.proofs.Iterate.{iterate-then}
 use Rattle.base.proofs.Table.{table-same, table-getD}
-use Rattle.xoshiro.specs.scalar.Xoshiro256pp.{State, output, step, steps, jumped, jumpPoly, jumps}
-use Rattle.xoshiro.proofs.scalar.Theorems.{steps-commute}
+use Rattle.xoshiro_steps.specs.Xoshiro256pp.{State, output, step, steps, jumped, jumpPoly, jumps}
+use Rattle.xoshiro_steps.proofs.Theorems.{steps-commute}
 use Rattle.xoshiro.specs.x8.Calls.{wordsOf, nextOf, blockJumps, movedBlocks}
 use Rattle.xoshiro.specs.x8.Lanes.{laneOf}
 use Rattle.xoshiro.specs.declared.x8.Xoshiro256ppX8.{Xoshiro256ppX8}
-use Rattle.xoshiro.proofs.x8.Draws.{lane-draws, word-at}
-use Rattle.xoshiro.proofs.x8.Theorems.{lanes-move, eight-words}
+use Rattle.xoshiro.proofs.x8.Draws.{word-at}
+use Rattle.xoshiro.proofs.x8.Theorems.{lanes-skip, lanes-move, eight-words}
 use Rattle.history.specs.xoshiro256pp.History.{wordsAt}
 
 pub record At (s : State) (d j : ℕ) (g : Xoshiro256ppX8) : Type 0 where
@@ -24,7 +24,7 @@ at-same a ed ej eg = rw (eg, ← ed, ← ej) a
 -- ---- draws are steps of every lane
 pub at-draws : (m : ℕ) {s : State} {d j : ℕ} {g : Xoshiro256ppX8} → At s d j g → At s (d + m) j (iterate nextOf m g)
 at-draws m {s} {d} {j} {g} a =
-    record { lane = λ i h. lane-draws m g i h ∙ ap (steps m) (a .lane i h) ∙ sym (iterate-then step d m (jumps (j + i) s)) }
+    record { lane = λ i h. lanes-skip m g i h ∙ ap (steps m) (a .lane i h) ∙ sym (iterate-then step d m (jumps (j + i) s)) }
 
 -- ---- a block move is so many jumps of every lane, and jumps go past steps
 pub at-move : (n : ℕ) {s : State} {d j : ℕ} {g : Xoshiro256ppX8} → At s d j g → At s d (j + blockJumps n) (movedBlocks n g .rng)

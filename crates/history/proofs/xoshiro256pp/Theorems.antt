@@ -13,13 +13,14 @@ use Rattle.fills.proofs.Handed.{right-fill, right-bytes, draws-made, draws-repo
 use Rattle.saved.specs.xoshiro256pp.Claims.{Restored}
 use Rattle.saved.proofs.xoshiro256pp.Sound.{Sound, sound-placed, sound-lanes, sound-loaded, sound-next, sound-moved}
 use Rattle.saved.proofs.xoshiro256pp.Theorems.{load-saved}
-use Rattle.xoshiro.specs.scalar.Xoshiro256pp.{State, seeded}
+use Rattle.xoshiro_steps.specs.Xoshiro256pp.{State}
+use Rattle.xoshiro.specs.scalar.Seeded.{seeded}
 use Rattle.xoshiro.specs.x8.Calls.{drawn, nextOf, blockJumps, placed, movedBlocks}
 use Rattle.xoshiro.specs.declared.x8.Placed.{Placed}
 use Rattle.xoshiro.specs.declared.x8.Xoshiro256ppX8.{Xoshiro256ppX8}
 use Rattle.xoshiro.proofs.x8.Theorems.{lanes-start}
-use Rattle.xoshiro_distance.proofs.Theorems.{seed-distance}
-use Rattle.history.specs.xoshiro256pp.Calls.{Call, draw, fill, bytes, move, many, Step, rngOf, rngAfter, Run}
+use Rattle.xoshiro.proofs.scalar.Theorems.{seed-distance}
+use Rattle.history.specs.xoshiro256pp.Calls.{Call, draw, fill, bytes, move, many, skip, Step, rngOf, rngAfter, Run}
 use Rattle.history.specs.xoshiro256pp.History.{drawsReported, jumpsReported, drawsCounted, jumpsCounted, D}
 use Rattle.history.specs.xoshiro256pp.History.{J, wordsAt, Right, History, DrawsAddUp, Restores, RowsInLists}
 use Rattle.history.specs.xoshiro256pp.Shipped.{XoshiroShips}
@@ -71,6 +72,7 @@ one {j = j} a (many at m before after draws rng) h =
       right = right-draws _ (λ i. words-at (at-draws i a)) h;
       at = at-same (at-draws m a) refl (sym (add-zero j)) (h .state);
     }
+one {j = j} a (skip n rng) h = record { draws = refl; jumps = refl; right = tt; at = at-same (at-draws n a) refl (sym (add-zero j)) h }
 
 pub draws-add-up : DrawsAddUp
 unfolding placed iterate
@@ -108,6 +110,7 @@ sound-call {g} s (fill K before after r) h = subst Sound (sym (h .state)) (itera
 sound-call {g} s (bytes k before after r) h = subst Sound (sym (h .state)) (iterate-keeps Sound nextOf sound-next (r .draws) g s)
 sound-call {g} s (move n r) h = subst Sound (sym (ap (λ x. x .rng) h)) (sound-moved n g s)
 sound-call {g} s (many at m before after draws rng) h = subst Sound (sym (h .state)) (iterate-keeps Sound nextOf sound-next m g s)
+sound-call {g} s (skip n rng) h = subst Sound (sym h) (iterate-keeps Sound nextOf sound-next n g s)
 
 after-calls : {g : Xoshiro256ppX8} → Sound g → (calls : List Call) → Run g calls → Restored (rngAfter g calls)
 after-calls {g} s calls r =
@@ -132,6 +135,7 @@ xoshiro-ships =
       load = λ κs a r e. (refl, refl);
       save = λ κs a r e. (refl, refl);
       next-u64x8 = λ κs a r e. (refl, refl);
+      skips = λ κs a r e. (refl, refl);
       jump-blocks = λ κs a r e. (refl, refl);
       fill-u64 = λ κs a r e. (refl, refl);
       fill-u32 = λ κs a r e. (refl, refl);

@@ -13,9 +13,11 @@ use Rattle.girderpeach.proofs.gp_philox_fill.Reads as philox-fill-reads
 use Rattle.girderpeach.proofs.gp_philox_new.Reads as philox-new-reads
 use Rattle.girderpeach.proofs.gp_philox_seek.Kinds as philox-seek-kinds
 use Rattle.girderpeach.proofs.gp_philox_seek.Reads as philox-seek-reads
+use Rattle.girderpeach.proofs.gp_philox_skip.Reads as philox-skip-reads
 use Rattle.girderpeach.proofs.gp_xoshiro_fill.Reads as xoshiro-fill-reads
 use Rattle.girderpeach.proofs.gp_xoshiro_jump_blocks.Reads as xoshiro-jump-reads
 use Rattle.girderpeach.proofs.gp_xoshiro_new.Reads as xoshiro-new-reads
+use Rattle.girderpeach.proofs.gp_xoshiro_skip.Reads as xoshiro-skip-reads
 use Rattle.history.specs.Contracts.{Says}
 use Rattle.history.specs.host.Philox as philox
 use Rattle.history.specs.host.Xoshiro as xoshiro
@@ -37,5 +39,10 @@ pub record HostShips : Type 1 where
   pub philox-seek : (κs : Lfts 1) (a : Dens κs philox-seek-kinds.ps) (r : _) (e : _) (u64 : a .1 .0 < 2 ^ 64)
       → (philox-seek-reads.Asked κs a ≡ Unit {0})
       × (philox-seek-reads.Learnt κs a r e ≡ philox.Step (now (a .0)) (philox.seek (a .1 .0) u64 r (now (e .0))))
+  -- the skips
+  pub xoshiro-skip : Says xoshiro-skip-reads.Asked xoshiro-skip-reads.Learnt
+      (λ κs a r e. xoshiro.Step (now (a .0)) (xoshiro.skip (a .1 .0) r (now (e .0))))
+  pub philox-skip : Says philox-skip-reads.Asked philox-skip-reads.Learnt
+      (λ κs a r e. philox.Step (now (a .0)) (philox.skip (a .1 .0) r (now (e .0))))
   -- the draws left: no step
   pub philox-draws-left : Says philox-left-reads.Asked philox-left-reads.Learnt (λ κs a r e. r ≡ philox-calls.drawsLeft (now (a .0)))

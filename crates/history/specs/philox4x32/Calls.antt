@@ -7,7 +7,7 @@ use Rattle.base.specs.Engine.{DrawnAt}
 use Rattle.base.specs.Lists as lists
 use Rattle.fills.specs.Fill.{Kind, Filled}
 use Rattle.fills.specs.FillBytes.{FilledBytes}
-use Rattle.philox.specs.x8.Machine.{drawn, grouped, sought, engine}
+use Rattle.philox.specs.x8.Machine.{drawn, grouped, sought, skipped, engine}
 use Rattle.philox.specs.declared.x8.Blocks.{Blocks}
 use Rattle.philox.specs.declared.x8.Draw.{Draw}
 use Rattle.philox.specs.declared.x8.Philox4x32X8.{Philox4x32X8}
@@ -16,7 +16,7 @@ use Rattle.philox_fills.specs.declared.fill_words.Fill.{Fill}
 
 -- A call, with what it was handed besides the generator and what it handed back: a single draw (next_u64x8, draw), a group call (blocks),
 -- a seek (to a u64), a typed fill, a byte fill with its kind's number, m draws whose words go into a slice from place `at` on (draw_many,
--- fill_buffer). `before` and `after` are the lent slice at the call and at the return.
+-- fill_buffer), n draws that hand out nothing (skip). `before` and `after` are the lent slice at the call and at the return.
 pub data Call : Type 1 where
   draw : (r : Draw) → Call
   group : (r : Blocks) → Call
@@ -24,6 +24,7 @@ pub data Call : Type 1 where
   fill : {A : Type 0} (K : Kind A) (before after : List A) (r : Fill) → Call
   bytes : (k : ℕ) (before after : List ℕ) (r : ByteFill) → Call
   many : (at m : ℕ) (before after : List ℕ) (draws : ℕ) (rng : Philox4x32X8) → Call
+  skip : (n : ℕ) (rng : Philox4x32X8) → Call
 
 -- what the function promises of the call on the generator s: its `ensures`, word for word (specs/philox4x32/Shipped.antt)
 abbrev pub Step : Philox4x32X8 → Call → Type 0
@@ -33,6 +34,7 @@ Step s (seek n u64 r) = r ≡ sought s n
 Step s (fill K before after r) = Filled engine K s before after (r .draws) (r .rng)
 Step s (bytes k before after r) = FilledBytes engine k s before after (r .refusal) (r .draws) (r .rng)
 Step s (many at m before after draws rng) = DrawnAt engine s at m before after draws rng
+Step s (skip n rng) = rng ≡ skipped n s
 
 -- the generator that the call handed back
 abbrev pub rngOf : Call → Philox4x32X8
@@ -42,6 +44,7 @@ rngOf (seek n u64 r) = r
 rngOf (fill K before after r) = r .rng
 rngOf (bytes k before after r) = r .rng
 rngOf (many at m before after draws rng) = rng
+rngOf (skip n rng) = rng
 
 -- the generator after a list of calls that began with s₀
 abbrev pub rngAfter : Philox4x32X8 → List Call → Philox4x32X8

@@ -17,7 +17,7 @@ use Rattle.philox.specs.declared.x8.Blocks.{Blocks}
 use Rattle.philox.specs.declared.x8.Philox4x32X8.{Philox4x32X8}
 use Rattle.history.specs.Draws.{RightDraws}
 use Rattle.history.specs.Rows.{Rows}
-use Rattle.history.specs.philox4x32.Calls.{Call, draw, group, seek, fill, bytes, many, rngAfter, Run}
+use Rattle.history.specs.philox4x32.Calls.{Call, draw, group, seek, fill, bytes, many, skip, rngAfter, Run}
 
 -- ---- what is counted along a list
 -- a is the last sought block, 0 if none; g counts the group calls and d the draws since then; `from` is the counter before the last odd draw
@@ -49,7 +49,8 @@ oneDraw t = record { a = t .a; g = t .g; d = t .d + 1; from = cond (waitsOf t) (
 abbrev pub oneGroup : Tally → Tally
 oneGroup t = record { a = t .a; g = t .g + 1; d = t .d; from = t .from }
 
--- the tally after a call, where it was t before it: the draws of a fill, and many draws at once, count in d, one after another
+-- the tally after a call, where it was t before it: the draws of a fill, many draws at once, and those of a skip, count in d, one after
+-- another
 abbrev pub tallyAfter : Tally → Call → Tally
 tallyAfter t (draw r) = oneDraw t
 tallyAfter t (group r) = oneGroup t
@@ -57,12 +58,13 @@ tallyAfter t (seek n u64 r) = record { a = n; g = 0; d = 0; from = 0 }
 tallyAfter t (fill K before after r) = iterate oneDraw (drawsFor K (length before)) t
 tallyAfter t (bytes k before after r) = iterate oneDraw (unless (refusalOf k (length before)) (bytesDraws k (length before)) 0) t
 tallyAfter t (many at m before after draws rng) = iterate oneDraw m t
+tallyAfter t (skip n rng) = iterate oneDraw n t
 
 abbrev pub tally : List Call → Tally
 tally calls = folded tallyAfter start calls
 
 -- the draws that the calls since the last seek reported, after a call, where they were m before it: a single draw 1, an accepted fill the
--- draws that it returned, as do many draws at once
+-- draws that it returned, as do many draws at once, a skip of n draws n
 abbrev pub reportedAfter : ℕ → Call → ℕ
 reportedAfter m (draw r) = m + 1
 reportedAfter m (group r) = m
@@ -70,6 +72,7 @@ reportedAfter m (seek n u64 r) = 0
 reportedAfter m (fill K before after r) = m + r .draws
 reportedAfter m (bytes k before after r) = m + unless (r .refusal) (r .draws) 0
 reportedAfter m (many at n before after draws rng) = m + draws
+reportedAfter m (skip n rng) = m + n
 
 abbrev pub reported : List Call → ℕ
 reported calls = folded reportedAfter 0 calls
@@ -87,7 +90,8 @@ pub record RightGroup (s₀ : Philox4x32X8) (t : Tally) (r : Blocks) : Type 0 wh
   pub word2 : r .w2 ≡ groupAt s₀ (counterOf t) .w2
   pub word3 : r .w3 ≡ groupAt s₀ (counterOf t) .w3
 
--- what a call on the generator s handed out is right, where the tally before it is t; draw m of a fill, or of many draws, has m more
+-- what a call on the generator s handed out is right, where the tally before it is t; draw m of a fill, or of many draws, has m more. A
+-- skip hands out nothing but the generator
 abbrev pub Right : Philox4x32X8 → Tally → Philox4x32X8 → Call → Type 0
 Right s₀ t s (draw r) = r .words ≡ wordsAt s₀ t
 Right s₀ t s (group r) = RightGroup s₀ t r
@@ -95,6 +99,7 @@ Right s₀ t s (seek n u64 r) = r .counter ≡ n
 Right s₀ t s (fill K before after r) = RightFill (λ m. wordsAt s₀ (iterate oneDraw m t)) K before after (r .draws)
 Right s₀ t s (bytes k before after r) = RightBytes (λ m. wordsAt s₀ (iterate oneDraw m t)) k before after s (r .refusal) (r .draws) (r .rng)
 Right s₀ t s (many at m before after draws rng) = RightDraws (λ i. wordsAt s₀ (iterate oneDraw i t)) at m before after draws
+Right s₀ t s (skip n rng) = Unit
 
 abbrev pub AllRight : Philox4x32X8 → List Call → Type 0
 AllRight s₀ = Each (λ calls c. Right s₀ (tally calls) (rngAfter s₀ calls) c)

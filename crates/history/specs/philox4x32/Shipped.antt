@@ -19,6 +19,7 @@ use Rattle.philox.proofs.x8.Philox4x32X8.new.Reads as new-reads
 use Rattle.philox.proofs.x8.Philox4x32X8.next_u64x8.Reads as next-u64x8-reads
 use Rattle.philox.proofs.x8.Philox4x32X8.seek.Kinds as seek-kinds
 use Rattle.philox.proofs.x8.Philox4x32X8.seek.Reads as seek-reads
+use Rattle.philox.proofs.x8.Philox4x32X8.skip.Reads as skip-reads
 use Rattle.philox_fills.proofs.bytes.fill_bytes.Reads as fill-bytes-reads
 use Rattle.philox_fills.proofs.fill_words.fill_buffer.Reads as fill-buffer-reads
 use Rattle.philox_fills.proofs.fill_words.fill_u64.Reads as fill-u64-reads
@@ -28,7 +29,7 @@ use Rattle.philox_fills.proofs.typed.fill_f64.Reads as fill-f64-reads
 use Rattle.philox_fills.proofs.typed.fill_normal_f32.Reads as fill-normal-f32-reads
 use Rattle.philox_fills.proofs.typed.fill_normal_f64.Reads as fill-normal-f64-reads
 use Rattle.history.specs.Contracts.{Says}
-use Rattle.history.specs.philox4x32.Calls.{draw, group, seek, fill, bytes, many, Step}
+use Rattle.history.specs.philox4x32.Calls.{draw, group, seek, fill, bytes, many, skip, Step}
 
 pub record PhiloxShips : Type 1 where
   -- the constructors: any stream of a seed, and stream 0 of it
@@ -40,6 +41,8 @@ pub record PhiloxShips : Type 1 where
   pub blocks : Says blocks-reads.Asked blocks-reads.Learnt (λ κs a r e. Step (a .0) (group r))
   pub seeks : (κs : Lfts 0) (a : Dens κs seek-kinds.ps) (r : _) (e : _) (u64 : a .1 .0 < 2 ^ 64)
       → (seek-reads.Asked κs a ≡ Unit {0}) × (seek-reads.Learnt κs a r e ≡ Step (a .0) (seek (a .1 .0) u64 r))
+  -- n draws
+  pub skips : Says skip-reads.Asked skip-reads.Learnt (λ κs a r e. Step (a .0) (skip (a .1 .0) r))
   -- the draws left: no step
   pub draws-left : Says draws-left-reads.Asked draws-left-reads.Learnt (λ κs a r e. r ≡ leftOf (a .0))
   -- the fills

@@ -17,6 +17,7 @@ use Rattle.xoshiro.proofs.x8.Xoshiro256ppX8.from_seed.Reads as from-seed-reads
 use Rattle.xoshiro.proofs.x8.Xoshiro256ppX8.from_seed_block.Reads as from-seed-block-reads
 use Rattle.xoshiro.proofs.x8.Xoshiro256ppX8.jump_blocks.Reads as jump-blocks-reads
 use Rattle.xoshiro.proofs.x8.Xoshiro256ppX8.next_u64x8.Reads as next-u64x8-reads
+use Rattle.xoshiro.proofs.x8.Xoshiro256ppX8.skip.Reads as skip-reads
 use Rattle.xoshiro_fills.proofs.bytes.fill_bytes.Reads as fill-bytes-reads
 use Rattle.xoshiro_fills.proofs.fill_words.fill_buffer.Reads as fill-buffer-reads
 use Rattle.xoshiro_fills.proofs.fill_words.fill_u64.Reads as fill-u64-reads
@@ -26,7 +27,7 @@ use Rattle.xoshiro_fills.proofs.typed.fill_f64.Reads as fill-f64-reads
 use Rattle.xoshiro_fills.proofs.typed.fill_normal_f32.Reads as fill-normal-f32-reads
 use Rattle.xoshiro_fills.proofs.typed.fill_normal_f64.Reads as fill-normal-f64-reads
 use Rattle.history.specs.Contracts.{Says}
-use Rattle.history.specs.xoshiro256pp.Calls.{draw, fill, bytes, move, many, Step}
+use Rattle.history.specs.xoshiro256pp.Calls.{draw, fill, bytes, move, many, skip, Step}
 
 pub record XoshiroShips : Type 1 where
   -- the constructors: block 0 of a seed, any block of it, eight lanes, and a form
@@ -36,8 +37,9 @@ pub record XoshiroShips : Type 1 where
   pub load : Says load-reads.Asked load-reads.Learnt (λ κs a r e. r ≡ loaded (now (a .0)))
   -- the form of a generator: no step
   pub save : Says save-reads.Asked save-reads.Learnt (λ κs a r e. Saved (sizeOf layout) (formOf (a .0)) (now (a .1 .0)) (now (e .1 .0)) r)
-  -- a draw, and a block move
+  -- a draw, n draws, and a block move
   pub next-u64x8 : Says next-u64x8-reads.Asked next-u64x8-reads.Learnt (λ κs a r e. Step (a .0) (draw r))
+  pub skips : Says skip-reads.Asked skip-reads.Learnt (λ κs a r e. Step (a .0) (skip (a .1 .0) r))
   pub jump-blocks : Says jump-blocks-reads.Asked jump-blocks-reads.Learnt (λ κs a r e. Step (a .0) (move (a .1 .0) r))
   -- the fills
   pub fill-u64 : Says fill-u64-reads.Asked fill-u64-reads.Learnt (λ κs a r e. Step (a .0) (fill u64s (now (a .1 .0)) (now (e .1 .0)) r))

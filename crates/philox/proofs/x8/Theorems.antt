@@ -9,14 +9,16 @@ use lib.ListN.{getD, length}
 use Rattle.base.specs.Iterate.{iterate}
 use Rattle.base.specs.Table.{table}
 use Rattle.base.specs.Quad.{Quad}
+use Rattle.base.proofs.Iterate.{iterate-more}
 use Rattle.base.proofs.Table.{getD-table}
 use Rattle.philox.specs.block.Philox.{groupOf}
 use Rattle.philox.specs.x8.Machine.{blockAt, lowerAt, upperAt, fresh, sought, holding, grouped, wordsOf, nextOf, drawn, leftOf}
-use Rattle.philox.specs.x8.Claims.{DrawWaiting, DrawFresh, GroupCall, Seek, EightWords}
+use Rattle.philox.specs.x8.Claims.{DrawWaiting, DrawFresh, GroupCall, Seek, SkipSeeks, EightWords}
 use Rattle.philox.specs.x8.Claims.{LeftWaiting, LeftFresh, LeftSought, LeftDrawn, LeftGrouped}
 use Rattle.philox.specs.x8.Claims.{LeftWrapped, LeftAfter, LeftWithin, NoneLeft, LeftNew, LeftAtMost}
 use Rattle.philox.specs.declared.x8.Philox4x32X8.{Philox4x32X8}
 use Rattle.philox.proofs.x8.Machine.{words-waiting, next-waiting, words-fresh, next-fresh, left-by}
+use Rattle.philox.proofs.x8.Skipping.{even-draws}
 
 pub seek : Seek
 unfolding sought
@@ -44,6 +46,12 @@ group-call g = (
   where
     at : (w : Quad → ℕ) (i : ℕ) → i < 8 → getD (table 8 (λ j. w (blockAt g (g .counter + j)))) i 0 ≡ w (blockAt g (g .counter + i))
     at w i h = getD-table 8 (λ j. w (blockAt g (g .counter + j))) i 0 h
+
+pub skip-seeks : SkipSeeks
+unfolding drawn
+skip-seeks g c q h =
+    let even = even-draws g c q h in
+    (even, iterate-more nextOf (2 * q) (sought g c) ∙ ap nextOf even)
 
 pub eight-words : EightWords
 unfolding wordsOf lowerAt table

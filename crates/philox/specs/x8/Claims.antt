@@ -5,7 +5,7 @@ use mathlib.Core.Path.{_≡_}
 use Prim.Native.Nat.{ℕ, _+_, _-_, _*_, _/_, _%_, _^_, _<_, _≤_}
 use lib.ListN.{getD, length}
 use Rattle.base.specs.Iterate.{iterate}
-use Rattle.philox.specs.x8.Machine.{blockAt, fresh, sought, grouped, wordsOf, nextOf, drawn, leftOf}
+use Rattle.philox.specs.x8.Machine.{blockAt, fresh, sought, grouped, wordsOf, nextOf, drawn, skipped, leftOf}
 use Rattle.philox.specs.declared.x8.Philox4x32X8.{Philox4x32X8}
 
 -- g′ has the key and the stream of g, this counter, and words wait or not
@@ -41,6 +41,12 @@ GroupCall = (g : Philox4x32X8)
 -- after a seek the counter is n and none wait
 abbrev pub Seek : Type 0
 Seek = (g : Philox4x32X8) (n : ℕ) → Stands g (sought g n) n false
+
+-- where none wait, two draws are eight blocks: 2 q draws from block c on lead where a seek to block c + 8 q does, and one more is a draw there
+abbrev pub SkipSeeks : Type 0
+SkipSeeks = (g : Philox4x32X8) (c q : ℕ) → c < 2 ^ 64
+    → (skipped (2 * q) (sought g c) ≡ sought g ((c + 8 * q) % 2 ^ 64))
+    × (skipped (2 * q + 1) (sought g c) ≡ drawn (sought g ((c + 8 * q) % 2 ^ 64)) .rng)
 
 -- a draw has eight words, on every record
 abbrev pub EightWords : Type 0

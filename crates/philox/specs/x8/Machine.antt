@@ -4,6 +4,7 @@ use mathlib.Core.List.{List, [], _∷_}
 use Prim.Native.Nat.{ℕ, _+_, _-_, _*_, _/_, _%_, _^_}
 use lib.ListN.{getD, replicate}
 use Rattle.base.specs.Engine.{Engine}
+use Rattle.base.specs.Iterate.{iterate}
 use Rattle.base.specs.Table.{table}
 use Rattle.base.specs.Quad.{Quad}
 use Rattle.philox.specs.block.Philox.{block, groupOf}
@@ -62,6 +63,10 @@ nextOf g = cond (g .waiting) (sought g (g .counter)) (holding g (past (g .counte
 
 unfoldable pub drawn : Philox4x32X8 → Draw
 drawn g = record { words = wordsOf g; rng = nextOf g }
+
+-- skip: the generator after n draws
+abbrev pub skipped : ℕ → Philox4x32X8 → Philox4x32X8
+skipped = iterate nextOf
 
 abbrev pub engine : Engine Philox4x32X8
 engine = record { words = wordsOf; next = nextOf }

@@ -23,7 +23,7 @@ use Rattle.saved.proofs.fields.Fields.{Bytes, Fits, laid-run, field-run
 use Rattle.saved.proofs.fields.Saved.{stored-all}
 use Rattle.saved.proofs.fields.Tests.{all-pass, one-fails, each-passes}
 use Rattle.xoshiro.specs.scalar.Calls.{stateOf}
-use Rattle.xoshiro.specs.scalar.Xoshiro256pp.{allZero}
+use Rattle.xoshiro_steps.specs.Xoshiro256pp.{allZero}
 use Rattle.xoshiro.specs.declared.scalar.Xoshiro256pp.{Xoshiro256pp}
 use Rattle.xoshiro.specs.x8.Calls.{isValid, ofLanes, fromLanes, blank8}
 use Rattle.xoshiro.specs.x8.Claims.{Eights}

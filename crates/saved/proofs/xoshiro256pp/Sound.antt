@@ -18,17 +18,20 @@ use Rattle.saved.specs.fields.Fields.{fields}
 use Rattle.saved.proofs.fields.Bounds.{field-below}
 use Rattle.saved.proofs.fields.Fields.{Bytes}
 use Rattle.xoshiro.specs.scalar.Calls.{stateOf}
-use Rattle.xoshiro.specs.scalar.Claims as scalar
-use Rattle.xoshiro.specs.scalar.Xoshiro256pp.{State, step, jumped, jumpPoly, jumps, allZero, seeded}
+use Rattle.xoshiro_steps.specs.Claims as scalar
+use Rattle.xoshiro_steps.specs.Xoshiro256pp.{State, step, jumped, jumpPoly, jumps, allZero}
+use Rattle.xoshiro.specs.scalar.Seeded.{seeded}
 use Rattle.xoshiro.specs.declared.scalar.Xoshiro256pp.{Xoshiro256pp}
-use Rattle.xoshiro.proofs.scalar.Nonzero.{nonzero-steps, nonzero-seeded}
-use Rattle.xoshiro.proofs.scalar.Widths.{words-step, words-jumped, words-seeded}
+use Rattle.xoshiro_steps.proofs.Nonzero.{nonzero-steps}
+use Rattle.xoshiro.proofs.scalar.Seeding.{nonzero-seeded}
+use Rattle.xoshiro_steps.proofs.Widths.{words-step, words-jumped}
+use Rattle.xoshiro.proofs.scalar.Seeding.{words-seeded}
 use Rattle.xoshiro.specs.rows.Lanes.{stepped}
 use Rattle.xoshiro.specs.x8.Calls.{nextOf, blockJumps, placed, movedBlocks, isValid, noLane, ofLanes, blank8, fromLanes}
 use Rattle.xoshiro.specs.x8.Lanes.{laneOf, ofStates}
 use Rattle.xoshiro.specs.declared.x8.LanesAnswer.{LanesAnswer}
 use Rattle.xoshiro.specs.declared.x8.Xoshiro256ppX8.{Xoshiro256ppX8}
-use Rattle.xoshiro_distance.proofs.Theorems.{never-zero}
+use Rattle.xoshiro_steps.proofs.Theorems.{never-zero}
 use Rattle.saved.specs.xoshiro256pp.Claims.{Words, NoZeroLane}
 use Rattle.saved.specs.xoshiro256pp.Form.{layout, laneIn, loaded}
 use Rattle.saved.proofs.xoshiro256pp.Form.{load-accepted}

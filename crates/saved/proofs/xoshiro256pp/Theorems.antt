@@ -1,6 +1,6 @@
 -- The claims of specs/xoshiro256pp/Claims.antt. Assumes nothing.
 use mathlib.Core.Path.{sym, ap, _∙_}
-use Rattle.xoshiro.specs.scalar.Xoshiro256pp.{allZero}
+use Rattle.xoshiro_steps.specs.Xoshiro256pp.{allZero}
 use Rattle.xoshiro.specs.x8.Lanes.{laneOf}
 use Rattle.xoshiro.specs.declared.x8.LanesAnswer.{LanesAnswer}
 use Rattle.xoshiro.specs.declared.x8.Xoshiro256ppX8.{Xoshiro256ppX8}

@@ -6,8 +6,8 @@ use Prim.Native.Nat.{ℕ, _<_}
 use lib.ListN.{length, getD}
 use Rattle.saved.specs.fields.Fields.{fields}
 use Rattle.xoshiro.specs.scalar.Calls.{stateOf}
-use Rattle.xoshiro.specs.scalar.Claims as scalar
-use Rattle.xoshiro.specs.scalar.Xoshiro256pp.{allZero}
+use Rattle.xoshiro_steps.specs.Claims as scalar
+use Rattle.xoshiro_steps.specs.Xoshiro256pp.{allZero}
 use Rattle.xoshiro.specs.x8.Claims.{Eights}
 use Rattle.xoshiro.specs.x8.Lanes.{laneOf}
 use Rattle.xoshiro.specs.declared.x8.Xoshiro256ppX8.{Xoshiro256ppX8}

@@ -6,7 +6,7 @@ use native.Mathlib.Omega.{arith}
 use lib.ListN.{getD, length, set}
 use Rattle.base.specs.Table.{table}
 use Rattle.base.specs.Quad.{column, rowsOf}
-use Rattle.xoshiro.specs.scalar.Xoshiro256pp.{output, step}
+use Rattle.xoshiro_steps.specs.Xoshiro256pp.{output, step}
 use Rattle.xoshiro.specs.rows.Rows.{sums, xors, shls, rotls}
 use Rattle.xoshiro.specs.rows.Lanes.{outputs, stepped}
 

@@ -2,7 +2,7 @@
 use Rattle.base.specs.Quad.{column}
 use Rattle.base.proofs.Table.{getD-table}
 use Rattle.base.proofs.Quad.{column-rowsOf}
-use Rattle.xoshiro.specs.scalar.Xoshiro256pp.{output, step}
+use Rattle.xoshiro_steps.specs.Xoshiro256pp.{output, step}
 use Rattle.xoshiro.specs.rows.Lanes.{outputs, stepped}
 use Rattle.xoshiro.specs.rows.Claims.{LanesStep}
 

@@ -9,12 +9,12 @@ use Rattle.base.specs.Iterate.{iterate}
 use Rattle.base.specs.Quad.{quadOf, listOf}
 use Rattle.base.proofs.Iterate.{iterate-more, iterate-then}
 use Rattle.base.proofs.Quad.{list-four}
-use Rattle.xoshiro.specs.scalar.Xoshiro256pp.{State, step, steps, plus, none, times, summed, jumped, jumpPoly, bitOf, highestOf}
+use Rattle.xoshiro_steps.specs.Xoshiro256pp.{State, step, steps, plus, none, times, summed, jumped, jumpPoly, bitOf, highestOf}
 use Rattle.xoshiro.specs.scalar.Calls.{stateOf, generator, jumpedBy, jumpsMade}
 use Rattle.xoshiro.specs.declared.scalar.Xoshiro256pp.{Xoshiro256pp}
 use Rattle.xoshiro.specs.declared.scalar.Jump.{Jump}
-use Rattle.xoshiro.proofs.scalar.Linear.{plus-none, none-plus, plus-assoc}
-use Rattle.xoshiro.proofs.scalar.Bits.{bit-of-word, summed-set, summed-clear, summed-early}
+use Rattle.xoshiro_steps.proofs.Linear.{plus-none, none-plus, plus-assoc}
+use Rattle.xoshiro_steps.proofs.Bits.{bit-of-word, summed-set, summed-clear, summed-early}
 
 -- ---- the bits of one word
 summed-word : (p : List ℕ) (i b : ℕ) (s : State) → b ≤ 64 → summed p (64 * i + b) s ≡ plus (summed p (64 * i) s) (summed (getD p i 0 ∷ []) b (steps (64 * i) s))

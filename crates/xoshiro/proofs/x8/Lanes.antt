@@ -5,13 +5,16 @@ use mathlib.Core.Path.{_≡_, sym, ap, _∙_}
 use Prim.Native.Nat.{ℕ, _+_, _<_}
 use native.Mathlib.Nat.{add-comm}
 use borrow.Author.Tests.{lt-ltb}
+use Rattle.base.specs.Quad.{column, rowsOf}
 use Rattle.base.specs.Table.{table}
-use Rattle.base.proofs.Table.{getD-table}
+use Rattle.base.proofs.Table.{getD-table, table-getD}
 use Rattle.base.proofs.Iterate.{iterate-add}
 use Rattle.base.proofs.Quad.{rowsOf-same}
-use Rattle.xoshiro.specs.scalar.Xoshiro256pp.{State, jumped, jumps, jumpPoly, seeded}
+use Rattle.xoshiro_steps.specs.Xoshiro256pp.{State, jumped, jumps, jumpPoly}
+use Rattle.xoshiro.specs.scalar.Seeded.{seeded}
 use Rattle.xoshiro.specs.scalar.Calls.{stateOf, generator, accepted, refused, jumpsMade, seededBy}
 use Rattle.xoshiro.specs.declared.scalar.Xoshiro256pp.{Xoshiro256pp}
+use Rattle.xoshiro.specs.x8.Claims.{Eights}
 use Rattle.xoshiro.specs.x8.Lanes.{laneOf, ofRows, ofStates}
 use Rattle.xoshiro.specs.x8.Calls.{ofLanes, noLane, laneCall, blockJumps, placed, movedBlocks}
 use Rattle.xoshiro.specs.declared.x8.Xoshiro256ppX8.{Xoshiro256ppX8}
@@ -20,9 +23,20 @@ use Rattle.xoshiro.specs.declared.x8.Placed.{Placed}
 states-same : (f g : ℕ → State) → ((i : ℕ) → i < 8 → f i ≡ g i) → ofStates f ≡ ofStates g
 states-same f g h = ap ofRows (rowsOf-same f g h)
 
-ofLanes-table : (f : ℕ → State) → ofLanes (table 8 (λ i. generator (f i))) ≡ ofStates f
+pub ofLanes-table : (f : ℕ → State) → ofLanes (table 8 (λ i. generator (f i))) ≡ ofStates f
 unfolding ofLanes
 ofLanes-table f = states-same _ f (λ i l. ap stateOf (getD-table 8 (λ j. generator (f j)) i noLane l))
+
+-- a generator is made of its lanes
+pub own-lanes : (g : Xoshiro256ppX8) → Eights g → ofStates (laneOf g) ≡ g
+unfolding rowsOf column
+own-lanes g w =
+    λ k. record {
+      s0 = table-getD 8 0 (g .s0) (w .row0) k;
+      s1 = table-getD 8 0 (g .s1) (w .row1) k;
+      s2 = table-getD 8 0 (g .s2) (w .row2) k;
+      s3 = table-getD 8 0 (g .s3) (w .row3) k;
+    }
 
 -- a block: lanes that are one jump apart, from the state after m jumps on
 pub placed-by : (seed b : ℕ) {m : ℕ} {at : Xoshiro256pp} {lanes : List Xoshiro256pp} {g : Xoshiro256ppX8} → m ≡ blockJumps b → at ≡ jumpsMade m (seededBy seed)

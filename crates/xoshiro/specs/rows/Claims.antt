@@ -4,7 +4,7 @@ use mathlib.Core.Path.{_≡_}
 use Prim.Native.Nat.{ℕ, _<_}
 use lib.ListN.{getD}
 use Rattle.base.specs.Quad.{column}
-use Rattle.xoshiro.specs.scalar.Xoshiro256pp.{output, step}
+use Rattle.xoshiro_steps.specs.Xoshiro256pp.{output, step}
 use Rattle.xoshiro.specs.rows.Lanes.{outputs, stepped}
 
 -- lane i of a step is a step of lane i, and its word is that lane's output

@@ -3,7 +3,7 @@ use mathlib.Core.List.{List}
 use Prim.Native.Nat.{ℕ}
 use Rattle.base.specs.Table.{table}
 use Rattle.base.specs.Quad.{column, rowsOf}
-use Rattle.xoshiro.specs.scalar.Xoshiro256pp.{output, step}
+use Rattle.xoshiro_steps.specs.Xoshiro256pp.{output, step}
 
 unfoldable pub outputs : List (List ℕ) → List ℕ
 outputs rows = table 8 (λ i. output (column rows i))

@@ -3,7 +3,8 @@ use mathlib.Core.List.{List, [], _∷_}
 use mathlib.Core.Bool.{cond}
 use Prim.Native.Nat.{ℕ}
 use Rattle.base.specs.Quad.{quadOf, listOf}
-use Rattle.xoshiro.specs.scalar.Xoshiro256pp.{State, output, step, steps, jumped, highestOf, jumps, allZero, seeded}
+use Rattle.xoshiro_steps.specs.Xoshiro256pp.{State, output, step, steps, jumped, highestOf, jumps, allZero}
+use Rattle.xoshiro.specs.scalar.Seeded.{seeded}
 use Rattle.xoshiro.specs.declared.scalar.Xoshiro256pp.{Xoshiro256pp}
 use Rattle.xoshiro.specs.declared.scalar.Draw.{Draw}
 use Rattle.xoshiro.specs.declared.scalar.Answer.{Answer}
@@ -46,5 +47,9 @@ jumpedBy poly g =
       walked = generator (steps (highestOf poly) (stateOf g));
     }
 
+-- jumps and steps: n of them
 abbrev pub jumpsMade : ℕ → Xoshiro256pp → Xoshiro256pp
 jumpsMade n g = generator (jumps n (stateOf g))
+
+abbrev pub stepsMade : ℕ → Xoshiro256pp → Xoshiro256pp
+stepsMade n g = generator (steps n (stateOf g))

@@ -6,7 +6,9 @@ use lib.Dec.{ltb}
 use lib.ListN.{getD, replicate}
 use Rattle.base.specs.Engine.{Engine}
 use Rattle.base.specs.Every.{every}
-use Rattle.xoshiro.specs.scalar.Xoshiro256pp.{jumps, seeded, allZero}
+use Rattle.base.specs.Iterate.{iterate}
+use Rattle.xoshiro_steps.specs.Xoshiro256pp.{jumps, allZero}
+use Rattle.xoshiro.specs.scalar.Seeded.{seeded}
 use Rattle.xoshiro.specs.scalar.Calls.{stateOf, generator, accepted, refused}
 use Rattle.xoshiro.specs.declared.scalar.Xoshiro256pp.{Xoshiro256pp}
 use Rattle.xoshiro.specs.declared.scalar.Answer.{Answer}
@@ -26,6 +28,10 @@ nextOf g = ofRows (stepped (rowsIn g))
 
 unfoldable pub drawn : Xoshiro256ppX8 → Draw
 drawn g = record { words = wordsOf g; rng = nextOf g }
+
+-- skip: the generator after n draws
+abbrev pub skipped : ℕ → Xoshiro256ppX8 → Xoshiro256ppX8
+skipped = iterate nextOf
 
 abbrev pub engine : Engine Xoshiro256ppX8
 engine = record { words = wordsOf; next = nextOf }

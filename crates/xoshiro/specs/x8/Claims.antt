@@ -3,16 +3,21 @@ use mathlib.Core.List.{List}
 use mathlib.Core.Path.{_≡_}
 use Prim.Native.Nat.{ℕ, _+_, _*_, _%_, _^_, _<_}
 use lib.ListN.{getD, length}
-use Rattle.xoshiro.specs.scalar.Xoshiro256pp.{output, step, jumps, seeded}
+use Rattle.xoshiro_steps.specs.Xoshiro256pp.{output, step, steps, jumps}
+use Rattle.xoshiro.specs.scalar.Seeded.{seeded}
 use Rattle.xoshiro.specs.scalar.Calls.{accepted}
 use Rattle.xoshiro.specs.declared.scalar.Xoshiro256pp.{Xoshiro256pp}
 use Rattle.xoshiro.specs.x8.Lanes.{laneOf}
-use Rattle.xoshiro.specs.x8.Calls.{wordsOf, drawn, placed, movedBlocks, fromLanes, laneCall, noLane}
+use Rattle.xoshiro.specs.x8.Calls.{wordsOf, drawn, skipped, placed, movedBlocks, fromLanes, laneCall, noLane}
 use Rattle.xoshiro.specs.declared.x8.Xoshiro256ppX8.{Xoshiro256ppX8}
 
 -- lane i of a draw's generator is a step of lane i, and word i is that lane's output
 abbrev pub LanesStep : Type 0
 LanesStep = (g : Xoshiro256ppX8) (i : ℕ) → i < 8 → (laneOf (drawn g .rng) i ≡ step (laneOf g i)) × (getD (drawn g .words) i 0 ≡ output (laneOf g i))
+
+-- so lane i of the generator after n draws is lane i after n steps
+abbrev pub LanesSkip : Type 0
+LanesSkip = (n : ℕ) (g : Xoshiro256ppX8) (i : ℕ) → i < 8 → laneOf (skipped n g) i ≡ steps n (laneOf g i)
 
 -- lane i of block b is the seed's state after (8 b modulo 2 ^ 64) + i jumps
 abbrev pub LanesStart : Type 0

@@ -3,7 +3,7 @@ use mathlib.Core.List.{List, [], _∷_}
 use Prim.Native.Nat.{ℕ}
 use lib.ListN.{getD}
 use Rattle.base.specs.Quad.{column, rowsOf}
-use Rattle.xoshiro.specs.scalar.Xoshiro256pp.{State}
+use Rattle.xoshiro_steps.specs.Xoshiro256pp.{State}
 use Rattle.xoshiro.specs.declared.x8.Xoshiro256ppX8.{Xoshiro256ppX8}
 
 -- a generator's rows, and back

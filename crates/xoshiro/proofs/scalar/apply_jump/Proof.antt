@@ -7,8 +7,8 @@ use native.Mathlib.Omega.{arith}
 use lib.ListN.{length}
 use borrow.Author.Needs.{needs}
 use Rattle.base.specs.Quad.{quadOf}
-use Rattle.xoshiro.specs.scalar.Xoshiro256pp.{none, bitOf}
-use Rattle.xoshiro.proofs.scalar.Bits.{bit-here}
+use Rattle.xoshiro_steps.specs.Xoshiro256pp.{none, bitOf}
+use Rattle.xoshiro_steps.proofs.Bits.{bit-here}
 use Rattle.xoshiro.proofs.scalar.Jumping.{Walk, walk-none, sum-set, sum-clear, walk-more, walk-word, walk-end}
 use Rattle.xoshiro.proofs.scalar.apply_jump.Statement.{statement}
 use Rattle.xoshiro.proofs.scalar.apply_jump.Tie as tie

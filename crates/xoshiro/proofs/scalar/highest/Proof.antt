@@ -3,8 +3,8 @@ use mathlib.Core.Path.{_≡_, refl, sym, ap, _∙_}
 use Prim.Native.Nat.{_+_, _-_, _*_, _≤_}
 use native.Mathlib.Omega.{arith}
 use borrow.Author.Needs.{needs}
-use Rattle.xoshiro.specs.scalar.Xoshiro256pp.{highestBelow, highestOf}
-use Rattle.xoshiro.proofs.scalar.Bits.{bit-here, within, word-set, word-clear, highest-zero}
+use Rattle.xoshiro_steps.specs.Xoshiro256pp.{highestBelow, highestOf}
+use Rattle.xoshiro_steps.proofs.Bits.{bit-here, within, word-set, word-clear, highest-zero}
 use Rattle.xoshiro.proofs.scalar.highest.Statement.{statement}
 use Rattle.xoshiro.proofs.scalar.highest.Tie as tie
 

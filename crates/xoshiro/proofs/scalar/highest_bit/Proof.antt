@@ -2,7 +2,7 @@
 use mathlib.Core.Path.{sym}
 use native.Mathlib.Omega.{arith}
 use lib.Count.{leading-le}
-use Rattle.xoshiro.proofs.scalar.Bits.{zero-highest, some-zeros, word-highest}
+use Rattle.xoshiro_steps.proofs.Bits.{zero-highest, some-zeros, word-highest}
 use Rattle.xoshiro.proofs.scalar.highest_bit.Statement.{statement}
 use Rattle.xoshiro.proofs.scalar.highest_bit.Tie as tie
 

@@ -1,7 +1,7 @@
 -- `xoshiro::scalar::is_zero` meets its contract.
 use mathlib.Core.Path.{refl}
 use borrow.Author.Needs.{needs}
-use Rattle.xoshiro.specs.scalar.Xoshiro256pp.{allZero}
+use Rattle.xoshiro_steps.specs.Xoshiro256pp.{allZero}
 use Rattle.xoshiro.proofs.scalar.is_zero.Statement.{statement}
 use Rattle.xoshiro.proofs.scalar.is_zero.Tie as tie
 

@@ -1,7 +1,7 @@
 -- `xoshiro::scalar::stepped` meets its contract.
 use borrow.Author.Needs.{needs}
 use Rattle.words.specs.Words.{shl}
-use Rattle.xoshiro.specs.scalar.Xoshiro256pp.{step}
+use Rattle.xoshiro_steps.specs.Xoshiro256pp.{step}
 use Rattle.xoshiro.proofs.scalar.stepped.Statement.{statement}
 use Rattle.xoshiro.proofs.scalar.stepped.Tie as tie
 

@@ -1,7 +1,7 @@
 -- `xoshiro::scalar::xored` meets its contract.
 use mathlib.Core.Path.{refl}
 use borrow.Author.Needs.{needs}
-use Rattle.xoshiro.specs.scalar.Xoshiro256pp.{plus}
+use Rattle.xoshiro_steps.specs.Xoshiro256pp.{plus}
 use Rattle.xoshiro.proofs.scalar.xored.Statement.{statement}
 use Rattle.xoshiro.proofs.scalar.xored.Tie as tie
 

@@ -1,7 +1,7 @@
 -- `xoshiro::scalar::Xoshiro256pp::from_seed` meets its contract.
 use mathlib.Core.Path.{sym, ap, _∙_}
 use borrow.Author.Needs.{needs}
-use Rattle.xoshiro.specs.scalar.Xoshiro256pp.{seeded, kept}
+use Rattle.xoshiro.specs.scalar.Seeded.{seeded, kept}
 use Rattle.xoshiro.specs.scalar.Calls.{generator}
 use Rattle.xoshiro.proofs.scalar.Seeding.{drawn-words, kept-zero, kept-other}
 use Rattle.xoshiro.proofs.scalar.Xoshiro256pp.from_seed.Statement.{statement}

@@ -1,6 +1,6 @@
 -- `xoshiro::scalar::Xoshiro256pp::next_u64` meets its contract.
 use borrow.Author.Needs.{needs}
-use Rattle.xoshiro.specs.scalar.Xoshiro256pp.{output}
+use Rattle.xoshiro_steps.specs.Xoshiro256pp.{output}
 use Rattle.xoshiro.specs.scalar.Calls.{drawn}
 use Rattle.xoshiro.proofs.scalar.Xoshiro256pp.next_u64.Statement.{statement}
 use Rattle.xoshiro.proofs.scalar.Xoshiro256pp.next_u64.Tie as tie

@@ -1,0 +1,12 @@
+pub mod Linear
+pub mod Bits
+pub mod Widths
+pub mod Nonzero
+pub mod Polynomials
+pub mod Squares
+pub mod Squaring
+pub mod Digits
+pub mod Wide
+pub mod Zero
+pub mod Distance
+pub mod Theorems

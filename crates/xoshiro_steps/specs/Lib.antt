@@ -1,0 +1,2 @@
+pub mod Xoshiro256pp
+pub mod Claims
