@@ -462,7 +462,8 @@ int main(int argc, char **argv) {
     printf("\nThe deepest stack of any of our calls, with its caller here:");
     for (int l = 0; l < level_count; l++)
         printf(" %s %zu bytes%s", levels[l].name, stack_depth(&levels[l]), l + 1 < level_count ? "," : ".\n");
-    puts("\nOver what is asked (ratios to the Rust, and µs of the calls that lead far):\n\n| level | engine | kind | places | what | asked | has |\n|---|---|---|---|---|---|---|");
+    puts("\nOver what is asked (ratios to the Rust, and µs of the calls that lead far):\n");
+    puts("| level | engine | kind | places | what | asked | has |\n|---|---|---|---|---|---|---|");
     puts(missed_end ? missed : "| none | | | | | | |");
     others(out, MOST);
     if (differences)

@@ -1,7 +1,7 @@
-"""Writes crates/xoshiro_steps/proofs/Squares.antt to standard output: the polynomial of a step of xoshiro256++, and x squared 192 times modulo
-it. With the argument `powers`, the words of the tables of crates/xoshiro/src/powers.rt: x ^ (2 ^ j) for j from 0 to 63 and from 128 to 191. The
-prover checks them by computing, so nothing is believed of this program. Polynomials over GF(2) are numbers: bit k is the coefficient of
-x ^ k."""
+"""Writes crates/xoshiro_steps/proofs/Squares.antt to standard output: the polynomial of a step of xoshiro256++, and x squared 192 times
+modulo it. With the argument `powers`, the words of the tables of crates/xoshiro/src/powers.rt: x ^ (2 ^ j) for j from 0 to 63 and from 128
+to 191. The prover checks them by computing, so nothing is believed of this program. Polynomials over GF(2) are numbers: bit k is the
+coefficient of x ^ k."""
 import sys
 
 # Blackman and Vigna, xoshiro256plusplus.c: what JUMP and LONG_JUMP should come out as.

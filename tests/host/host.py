@@ -410,7 +410,7 @@ EDGES = (0, 1, 2, 3, 2**61 - 1, 2**61, 2**61 + 1, 2**62 - 1, 2**62, 2**63 - 1, 2
 
 
 def far(host):
-    """Blocks and draws far off, near 2^61 and 2^64 among them, from the seed: by the polynomial of a step. Skips and moves from any form."""
+    """Blocks and draws far off, near 2^61 and 2^64 among them, by the polynomial of a step: from the seed, and from any form."""
     for n in EDGES:
         try_move(host, good_form(Xoshiro), n)
         try_skip(host, Xoshiro, good_form(Xoshiro), n)

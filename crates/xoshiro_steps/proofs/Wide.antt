@@ -10,7 +10,8 @@ use Rattle.base.proofs.Quad.{quad-path}
 use Rattle.xoshiro_steps.specs.Xoshiro256pp.{State, step, plus, none, times}
 use Rattle.xoshiro_steps.proofs.Linear.{plus-none, plus-assoc}
 use Rattle.xoshiro_steps.proofs.Nonzero.{four-pass}
-use Rattle.xoshiro_steps.proofs.Digits.{Holds, holds-le, holds-zero, holds-xor, rotated, holds-rotl, shifted, holds-shl, lowered, holds-lowered, holds-nothing}
+use Rattle.xoshiro_steps.proofs.Digits.{Holds, holds-le, holds-zero, holds-xor, rotated, holds-rotl, shifted, holds-shl}
+use Rattle.xoshiro_steps.proofs.Digits.{lowered, holds-lowered, holds-nothing}
 use Rattle.xoshiro_steps.proofs.Polynomials.{atStep}
 
 -- ---- what is computed

@@ -9,23 +9,18 @@ use native.Mathlib.Omega.{arith}
 use Rattle.girderpeach.proofs.gp_philox_skip.Statement.{statement}
 use Rattle.girderpeach.proofs.gp_philox_skip.Tie as tie
 
-answer-of-requires : tie.Need-answer-of-requires
-answer-of-requires c κs = (few-form philox-sound _ (ap (λ x. x .refusal) (c .before .before .load .ensures)), omega arith)
-
-returns : tie.Need-returns
-returns c =
-    let e = ap (λ x. x .refusal) (c .before .before .before .load .ensures) in
-    called-refused e (c .before .if1 .taken) (toZ-ofZ (search needs) ∙ c .answer-of .ensures)
-
 returns-2 : tie.Need-returns-2
 returns-2 c =
-    let s = c .before .before in
-    let k = s .before .before in
-    let i = k .before .before in
+    let i = c .before .before .before .before .before .before in
     let l = i .before .before .load .ensures in
-    skip-done forms philox-sound _ (ap (λ x. x .refusal) l) (i .if1 .left) (ap (λ x. x .rng) l) (k .skip .ensures) (s .save .ensures)
+    skip-done forms philox-sound _ (ap (λ x. x .refusal) l) (i .if1 .left) (ap (λ x. x .rng) l)
+    (c .before .before .before .before .skip .ensures) (c .before .before .save .ensures)
 
 pub gp-philox-skip-spec : {M : Type 1} → statement M
 gp-philox-skip-spec =
-    tie.close (tie.spec (λ c κs. search needs) answer-of-requires (λ c. search needs) returns
+    tie.close (tie.spec (λ c κs. search needs)
+    (λ c κs. (few-form philox-sound _ (ap (λ x. x .refusal) (c .before .before .load .ensures)), omega arith))
+    (λ c. search needs)
+    (λ c. let l = c .before .before .before .load .ensures in
+    called-refused (ap (λ x. x .refusal) l) (c .before .if1 .taken) (toZ-ofZ (search needs) ∙ c .answer-of .ensures))
     (λ c κs. search needs) (λ c κs. search needs) (λ c. search needs) returns-2)

@@ -42,7 +42,8 @@ GroupCall = (g : Philox4x32X8)
 abbrev pub Seek : Type 0
 Seek = (g : Philox4x32X8) (n : ℕ) → Stands g (sought g n) n false
 
--- where none wait, two draws are eight blocks: 2 q draws from block c on lead where a seek to block c + 8 q does, and one more is a draw there
+-- where none wait, two draws are eight blocks: 2 q draws from block c on lead where a seek to block c + 8 q does, and one more is a draw
+-- there
 abbrev pub SkipSeeks : Type 0
 SkipSeeks = (g : Philox4x32X8) (c q : ℕ) → c < 2 ^ 64
     → (skipped (2 * q) (sought g c) ≡ sought g ((c + 8 * q) % 2 ^ 64))

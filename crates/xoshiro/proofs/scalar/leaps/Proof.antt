@@ -31,7 +31,10 @@ loop-again c =
     let b = c .before .bit .ensures in
     let w = c .before .before .before .before .known .ensures .1 in
     let at = c .before .before .before .loop .at in
-    ⊎-elim (λ a. leapt-set l h w b (a .0 .taken) (a .3 .ensures ∙ ap (λ (p : List ℕ). jumpedBy p at) (a .1 .ensures)) (a .5)) (λ a. leapt-clear l h b (a .0 .left) (a .1)) (c .if1 .came)
+    ⊎-elim
+    (λ a. leapt-set l h w b (a .0 .taken) (a .3 .ensures ∙ ap (λ (p : List ℕ). jumpedBy p at) (a .1 .ensures)) (a .5))
+    (λ a. leapt-clear l h b (a .0 .left) (a .1))
+    (c .if1 .came)
 
 returns : tie.Need-returns Inv-loop μ-loop
 returns c =
