@@ -13,9 +13,9 @@ RUST_SRC ?= ../shared/docs/src
 PREFIX = /usr/local
 DESTDIR =
 
-VERSION = 0.1.0
+VERSION = 0.2.0
 # Programs that were linked with the shared object ask for it by this name. It changes when a call changes.
-SONAME = libgirderpeach.so.0
+SONAME = libgirderpeach.so.1
 
 # The levels of x86-64 that everything is compiled for beside plain x86-64, by the names that glibc's loader looks for; and where
 # tools/compile puts what it makes, a folder for each level.

@@ -29,11 +29,15 @@ typedef struct {
     uint32_t key[2];
     uint64_t stream, counter;
     bool waiting;
-    uint64_t pending[8];
+    uint64_t pending[8], first;
 } philox;
+/* Of the label of a draw or a fill, which is not looked at. */
+static uint64_t label_first;
+static bool label_upper;
 typedef void rust_fill(void *rng, void *out, size_t n);
 typedef uint64_t xoshiro_fill(uint64_t *rows, void *out, size_t n);
-typedef uint64_t philox_fill(uint32_t *key, uint64_t *stream, uint64_t *counter, bool *waiting, uint64_t *pending, void *out, size_t n);
+typedef uint64_t philox_fill(uint32_t *key, uint64_t *stream, uint64_t *counter, bool *waiting, uint64_t *pending, uint64_t *first,
+                             uint64_t *from, bool *upper, void *out, size_t n);
 typedef int64_t library_fill(uint8_t *form, size_t form_len, uint64_t kind, uint8_t *out, size_t out_len);
 
 typedef struct {
@@ -132,7 +136,8 @@ static void fills(runner *r, size_t n, long calls) {
             ((xoshiro_fill *)r->call)(r->ours.rows, out, n);
     else
         for (long i = 0; i < calls; i++)
-            ((philox_fill *)r->call)(p->key, &p->stream, &p->counter, &p->waiting, p->pending, out, n);
+            ((philox_fill *)r->call)(p->key, &p->stream, &p->counter, &p->waiting, p->pending, &p->first, &label_first, &label_upper, out,
+                                     n);
 }
 
 /* Where its stack lies tells on a short fill, so each run of a source is at another place of it. */
@@ -242,11 +247,11 @@ static void their_philox_draws(pair_state *s, long calls, uint64_t *result) {
 }
 
 static void my_philox_draws(pair_state *s, long calls, uint64_t *result) {
-    void (*draw)(uint32_t *, uint64_t *, uint64_t *, bool *, uint64_t *, uint64_t *) =
+    void (*draw)(uint32_t *, uint64_t *, uint64_t *, bool *, uint64_t *, uint64_t *, uint64_t *, bool *, uint64_t *) =
         symbol(s->level->typed[PHILOX], "oracle_philox_next_u64x8", "", "");
     philox p = {.key = {(uint32_t)SEED}};
     for (long i = 0; i < calls; i++)
-        draw(p.key, &p.stream, &p.counter, &p.waiting, p.pending, result);
+        draw(p.key, &p.stream, &p.counter, &p.waiting, p.pending, &p.first, &label_first, &label_upper, result);
 }
 
 /* Jumps of one stream, one after another, from one state. */
@@ -373,7 +378,9 @@ static struct {
     int64_t (*xoshiro_new)(uint64_t, uint64_t, uint8_t *, size_t, uint64_t *), (*move)(uint8_t *, size_t, uint64_t, uint64_t *);
     int64_t (*philox_new)(uint64_t, uint64_t, uint8_t *, size_t), (*seek)(uint8_t *, size_t, uint64_t), (*left)(const uint8_t *, size_t);
     int64_t (*xoshiro_skip)(uint8_t *, size_t, uint64_t), (*philox_skip)(uint8_t *, size_t, uint64_t);
-    uint8_t form[GP_XOSHIRO_FORM];
+    int64_t (*label)(const uint8_t *, size_t, uint64_t *), (*from_96)(const uint8_t *, size_t, uint8_t *, size_t);
+    int64_t (*to_96)(const uint8_t *, size_t, uint8_t *, size_t);
+    uint8_t form[GP_XOSHIRO_FORM], old[GP_PHILOX_FORM_96];
     uint64_t jumps;
 } others_of_library;
 
@@ -385,6 +392,9 @@ static void every_call(void) {
     others_of_library.seek(others_of_library.form, GP_PHILOX_FORM, 1);
     others_of_library.philox_skip(others_of_library.form, GP_PHILOX_FORM, 3);
     others_of_library.left(others_of_library.form, GP_PHILOX_FORM);
+    others_of_library.label(others_of_library.form, GP_PHILOX_FORM, &others_of_library.jumps);
+    others_of_library.to_96(others_of_library.form, GP_PHILOX_FORM, others_of_library.old, GP_PHILOX_FORM_96);
+    others_of_library.from_96(others_of_library.old, GP_PHILOX_FORM_96, others_of_library.form, GP_PHILOX_FORM);
     for (int e = 0; e < ENGINES; e++)
         for (int k = 0; k < KINDS; k++)
             for (int s = TYPED; s <= LIBRARY; s++)
@@ -408,6 +418,9 @@ static size_t stack_depth(const level *l) {
     others_of_library.philox_new = symbol(l->library, "gp_philox_new", "", "");
     others_of_library.seek = symbol(l->library, "gp_philox_seek", "", "");
     others_of_library.left = symbol(l->library, "gp_philox_draws_left", "", "");
+    others_of_library.label = symbol(l->library, "gp_philox_label", "", "");
+    others_of_library.to_96 = symbol(l->library, "gp_philox_to_96", "", "");
+    others_of_library.from_96 = symbol(l->library, "gp_philox_from_96", "", "");
     memset(stack, 0xA5, sizeof stack);
     getcontext(&there);
     there.uc_stack.ss_sp = stack;

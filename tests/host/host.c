@@ -2,9 +2,10 @@
  *
  *     host EXPECTED [tight]
  *
- * What is refused, and the draws, come from the scope document's rules, written down here. Words and forms come from the Rust: EXPECTED is a
- * list of calls and of its answers (tests/host/expected.txt). With `tight` the lent buffers have no room around them, so that valgrind
- * sees a byte that is read or written outside one; and fewer cases are tried. */
+ * What is refused, and the draws, come from the scope document's rules and the customers' changes to them, written down here; the words of
+ * a Philox group from the published definition. Words and forms come from the Rust: EXPECTED is a list of calls and of its answers
+ * (tests/host/expected.txt). With `tight` the lent buffers have no room around them, so that valgrind sees a byte that is read or written
+ * outside one; and fewer cases are tried. */
 #include <inttypes.h>
 #include <stdarg.h>
 #include <stdio.h>
@@ -113,10 +114,45 @@ static int all_zero(const uint8_t *bytes, size_t n) {
     return n == 0;
 }
 
+/* A block of Philox4x32 in ten rounds (Salmon et al. 2011), in the place of its counter. */
+static void philox_block(uint64_t key, uint32_t *c) {
+    uint32_t k0 = (uint32_t)key, k1 = (uint32_t)(key >> 32);
+    for (int round = 0; round < 10; round++) {
+        uint64_t p0 = (uint64_t)0xd2511f53 * c[0], p1 = (uint64_t)0xcd9e8d57 * c[2];
+        c[0] = (uint32_t)(p1 >> 32) ^ c[1] ^ k0;
+        c[1] = (uint32_t)p1;
+        c[2] = (uint32_t)(p0 >> 32) ^ c[3] ^ k1;
+        c[3] = (uint32_t)p0;
+        k0 += 0x9e3779b9;
+        k1 += 0xbb67ae85;
+    }
+}
+
+/* The lower or the upper words of the eight blocks from block `first` on, modulo 2^64, with the key and the stream of a form. */
+static void put_half(uint8_t *words, const uint8_t *form, uint64_t first, int upper) {
+    uint64_t key = word_at(form), stream = word_at(form + 8);
+    for (int i = 0; i < 8; i++, first++) {
+        uint32_t c[4] = {(uint32_t)first, (uint32_t)(first >> 32), (uint32_t)stream, (uint32_t)(stream >> 32)};
+        philox_block(key, c);
+        put_word(words + 8 * i, c[2 * upper] | (uint64_t)c[2 * upper + 1] << 32);
+    }
+}
+
 static int philox_fault(const uint8_t *form, size_t length) {
-    if (length != 96) return 1;
+    uint8_t upper[64];
+    if (length != 104) return 1;
     uint64_t mark = word_at(form + 24);
-    return mark > 1 || (mark == 0 && !all_zero(form + 32, 64)) ? 2 : 0;
+    if (mark > 1 || (mark == 0 && !all_zero(form + 32, 72))) return 2;
+    put_half(upper, form, word_at(form + 96), 1);
+    return mark == 1 && !same(form + 32, upper, 64) ? 14 : 0;
+}
+
+/* What a form of 96 bytes becomes, and its refusal: the number is counter - 8 modulo 2^64 if words wait, else 0. */
+static int moved_fault(const uint8_t *old, size_t length, uint8_t *moved) {
+    if (length != 96) return 1;
+    memcpy(moved, old, 96);
+    put_word(moved + 96, word_at(old + 24) == 1 ? word_at(old + 16) - 8 : 0);
+    return philox_fault(moved, 104);
 }
 
 static int xoshiro_fault(const uint8_t *form, size_t length) {
@@ -137,7 +173,7 @@ struct engine {
     int64_t (*skip)(uint8_t *form, size_t form_len, uint64_t draws);
 };
 static const struct engine xoshiro = {"gp_xoshiro_fill", 256, xoshiro_fault, gp_xoshiro_fill, gp_xoshiro_skip};
-static const struct engine philox = {"gp_philox_fill", 96, philox_fault, gp_philox_fill, gp_philox_skip};
+static const struct engine philox = {"gp_philox_fill", 104, philox_fault, gp_philox_fill, gp_philox_skip};
 
 /* Of kinds 1 to 6: bytes of an element, elements of a group, draws of a group. */
 static const struct {
@@ -145,19 +181,22 @@ static const struct {
     int64_t draws;
 } kinds[7] = {{0, 0, 0}, {8, 8, 1}, {4, 16, 1}, {4, 16, 1}, {8, 8, 1}, {4, 16, 1}, {8, 16, 2}};
 
+/* A wrong group, 14, is answered after a kind or a length. */
 static int64_t fill_answer(int form_fault, uint64_t kind, size_t out_len) {
-    if (form_fault) return -form_fault;
+    if (form_fault && form_fault != 14) return -form_fault;
     if (kind < 1 || kind > 6) return -4;
     if (out_len % kinds[kind].width) return -5;
+    if (form_fault) return -form_fault;
     size_t places = out_len / kinds[kind].width;
     return kinds[kind].draws * (int64_t)((places + kinds[kind].places - 1) / kinds[kind].places);
 }
 
 /* The header's names stand for the scope document's numbers, which the tests below write out. */
 static void names(void) {
-    static const int named[] = {GP_XOSHIRO_FORM, GP_PHILOX_FORM, GP_U64, GP_U32, GP_F32, GP_F64, GP_NORMAL_F32, GP_NORMAL_F64, GP_REFUSED_FORM_LENGTH,
-                                GP_REFUSED_MARK, GP_REFUSED_ZERO_LANE, GP_REFUSED_KIND, GP_REFUSED_OUT_LENGTH};
-    static const int numbers[] = {256, 96, 1, 2, 3, 4, 5, 6, 1, 2, 3, 4, 5};
+    static const int named[] = {GP_XOSHIRO_FORM, GP_PHILOX_FORM, GP_PHILOX_FORM_96, GP_U64, GP_U32, GP_F32, GP_F64, GP_NORMAL_F32,
+                                GP_NORMAL_F64, GP_REFUSED_FORM_LENGTH, GP_REFUSED_MARK, GP_REFUSED_ZERO_LANE, GP_REFUSED_KIND,
+                                GP_REFUSED_OUT_LENGTH, GP_REFUSED_GROUP};
+    static const int numbers[] = {256, 104, 96, 1, 2, 3, 4, 5, 6, 1, 2, 3, 4, 5, 14};
     struct call c = {"the header", 0, 0, 0};
     for (; c.a < sizeof numbers / sizeof *numbers; c.a++) expect(&c, "name", (uint64_t)named[c.a], (uint64_t)numbers[c.a]);
 }
@@ -229,14 +268,15 @@ static uint64_t try_xoshiro_new(uint64_t seed, uint64_t block, size_t form_len, 
 
 static void try_philox_new(uint64_t seed, uint64_t stream, size_t form_len, uint8_t *after) {
     struct call c = {"gp_philox_new", form_len, seed, stream};
-    int fault = form_len != 96;
+    int fault = form_len != 104;
     struct lent f = lend(NULL, form_len);
-    uint8_t expected[96] = {0};
+    uint8_t expected[104] = {0};
     put_word(expected, seed);
     put_word(expected + 8, stream);
     expect(&c, "answer", (uint64_t)gp_philox_new(seed, stream, f.at, form_len), (uint64_t)-fault);
     expect_kept(&c, "form", &f, fault);
-    if (!fault && !same(f.at, expected, 96)) fail("gp_philox_new(%" PRIu64 ", %" PRIu64 "): not the form of this key and stream", seed, stream);
+    if (!fault && !same(f.at, expected, 104))
+        fail("gp_philox_new(%" PRIu64 ", %" PRIu64 "): not the form of this key and stream", seed, stream);
     if (after) memcpy(after, f.at, form_len);
     give_back(&f);
 }
@@ -250,7 +290,7 @@ static void try_seek(const uint8_t *form, size_t form_len, uint64_t block, uint8
     if (!fault) {
         expect(&c, "key and stream kept", (uint64_t)same(f.at, form, 16), 1);
         expect(&c, "counter", word_at(f.at + 16), block);
-        expect(&c, "no words wait", (uint64_t)all_zero(f.at + 24, 72), 1);
+        expect(&c, "no words wait", (uint64_t)all_zero(f.at + 24, 80), 1);
     }
     if (after) memcpy(after, f.at, form_len);
     give_back(&f);
@@ -271,16 +311,62 @@ static void try_draws_left(const uint8_t *form, size_t form_len) {
     give_back(&f);
 }
 
+static void try_label(const uint8_t *form, size_t form_len) {
+    struct call c = {"gp_philox_label", form_len, 0, 0};
+    int fault = philox_fault(form, form_len), upper = fault ? 0 : form[24];
+    struct lent f = lend(form, form_len);
+    uint64_t first[3] = {7, 12345, 7};
+    int64_t answer = gp_philox_label(f.at, form_len, &first[1]);
+    expect(&c, "answer", (uint64_t)answer, (uint64_t)(fault ? -fault : upper));
+    expect(&c, "first block", first[1], fault ? 12345 : word_at(form + (upper ? 96 : 16)));
+    expect(&c, "beside the first block", first[0] + first[2], 14);
+    expect_kept(&c, "form", &f, 1);
+    give_back(&f);
+}
+
+/* `form` is written, and has another length than 104 in some cases. */
+static void try_from_96(const uint8_t *old, size_t old_len, size_t form_len) {
+    struct call c = {"gp_philox_from_96", form_len, old_len, 0};
+    uint8_t moved[104];
+    int fault = moved_fault(old, old_len, moved);
+    if (form_len != 104) fault = 1;
+    struct lent o = lend(old, old_len), f = lend(NULL, form_len);
+    expect(&c, "answer", (uint64_t)gp_philox_from_96(o.at, old_len, f.at, form_len), (uint64_t)-fault);
+    expect_kept(&c, "old form", &o, 1);
+    expect_kept(&c, "form", &f, fault);
+    if (!fault) expect(&c, "the old bytes and the number", (uint64_t)same(f.at, moved, 104), 1);
+    give_back(&o);
+    give_back(&f);
+}
+
+static void try_to_96(const uint8_t *form, size_t form_len, size_t old_len) {
+    struct call c = {"gp_philox_to_96", form_len, old_len, 0};
+    int fault = old_len != 96 ? 1 : philox_fault(form, form_len);
+    struct lent f = lend(form, form_len), o = lend(NULL, old_len);
+    expect(&c, "answer", (uint64_t)gp_philox_to_96(f.at, form_len, o.at, old_len), (uint64_t)-fault);
+    expect_kept(&c, "form", &f, 1);
+    expect_kept(&c, "old form", &o, fault);
+    if (!fault) expect(&c, "the first 96 bytes", (uint64_t)same(o.at, form, 96), 1);
+    give_back(&f);
+    give_back(&o);
+}
+
 /* ---- what is refused */
 
 /* Room for a form and more, which is noise. Noise is a good xoshiro form. */
 #define ROOM 600
 static void put_xoshiro(uint8_t *form) { put_noise(form, ROOM); }
 
-static void put_philox(uint8_t *form, int waiting) {
+/* The words that wait were left by a draw, and so many group calls followed. */
+static void put_philox(uint8_t *form, int waiting, uint64_t groups) {
+    uint64_t first;
     put_noise(form, ROOM);
     put_word(form + 24, (uint64_t)waiting);
-    if (!waiting) memset(form + 32, 0, 64);
+    memset(form + 32, 0, 72);
+    if (!waiting) return;
+    first = word_at(form + 16) - 8 - 8 * groups;
+    put_half(form + 32, form, first, 1);
+    put_word(form + 96, first);
 }
 
 static void zero_lane(uint8_t *form, int i) {
@@ -289,17 +375,19 @@ static void zero_lane(uint8_t *form, int i) {
 
 /* Every set of faults: the lowest number is answered. */
 static void faults_together(void) {
-    for (int set = 1; set < 16; set++) {
+    for (int set = 1; set < 32; set++) {
         uint8_t x[ROOM], p[ROOM];
-        int length = set & 1, damaged = set & 2, kind = set & 4, out = set & 8;
+        int length = set & 1, damaged = set & 2, kind = set & 4, out = set & 8, group = set & 16;
         put_xoshiro(x);
-        put_philox(p, 1);
+        put_philox(p, 1, noise() % 3);
         if (damaged) zero_lane(x, 5);
         if (damaged) p[24] = 2;
-        int later = kind ? 4 : 5;
+        if (group) p[32 + noise() % 72] ^= 4;
+        int later = kind ? 4 : out ? 5 : 14;
         /* 17 bytes are whole elements of no kind */
+        try_fill(&philox, p, length ? 105 : 104, kind ? 0 : 2, out ? 17 : 16, length ? -1 : damaged ? -2 : -later, NULL, NULL);
+        if (group) continue;
         try_fill(&xoshiro, x, length ? 255 : 256, kind ? 7 : 6, out ? 17 : 16, length ? -1 : damaged ? -3 : -later, NULL, NULL);
-        try_fill(&philox, p, length ? 97 : 96, kind ? 0 : 2, out ? 17 : 16, length ? -1 : damaged ? -2 : -later, NULL, NULL);
     }
 }
 
@@ -313,10 +401,11 @@ static void every_kind_and_length(const struct engine *e, const uint8_t *form, s
 }
 
 static void every_form_length(void) {
-    static const size_t lengths[] = {0, 1, 8, 88, 95, 96, 97, 104, 192, 248, 255, 256, 257, 264, 352, 512};
-    uint8_t x[ROOM], p[ROOM];
+    static const size_t lengths[] = {0, 1, 8, 88, 95, 96, 97, 103, 104, 105, 112, 192, 208, 248, 255, 256, 257, 264, 352, 512};
+    uint8_t x[ROOM], p[ROOM], q[ROOM];
     put_xoshiro(x);
-    put_philox(p, 0);
+    put_philox(p, 0, 0);
+    put_philox(q, 1, 0);
     for (size_t i = 0; i < sizeof lengths / sizeof *lengths; i++) {
         size_t n = lengths[i];
         uint64_t far = UINT64_MAX / 9;
@@ -329,33 +418,79 @@ static void every_form_length(void) {
         try_philox_new(1, 2, n, NULL);
         try_seek(p, n, 3, NULL);
         try_draws_left(p, n);
+        try_label(p, n);
+        try_label(q, n);
+        try_to_96(q, n, 96);
+        try_to_96(q, 104, n);
+        try_to_96(q, n, 104);
+        try_from_96(q, n, 104);
+        try_from_96(q, 96, n);
+        try_from_96(q, n, 96);
     }
 }
 
-/* Each of the 96 bytes set to other values, in a form without waiting words and in one with them. */
-static void damaged_philox(int waiting) {
-    uint8_t good[ROOM], form[96], out[64], after[96];
-    put_philox(good, waiting);
-    for (int i = 0; i < 96; i++) {
+/* Every call on a Philox form, and both moves. */
+static void try_philox_form(const uint8_t *form, uint8_t *out, uint8_t *after) {
+    int fault = philox_fault(form, 104);
+    try_seek(form, 104, noise(), NULL);
+    try_skip(&philox, form, 104, noise() % 8, NULL);
+    try_draws_left(form, 104);
+    try_label(form, 104);
+    try_to_96(form, 104, 96);
+    try_to_96(form, 104, 95);
+    try_from_96(form, 96, 104);
+    try_from_96(form, 96, 103);
+    try_fill(&philox, form, 104, 0, 3, fill_answer(fault, 0, 3), NULL, NULL);
+    try_fill(&philox, form, 104, 3, 3, fill_answer(fault, 3, 3), NULL, NULL);
+    try_fill(&philox, form, 104, 6, 0, fill_answer(fault, 6, 0), NULL, NULL);
+    try_fill(&philox, form, 104, 1, 64, fill_answer(fault, 1, 64), out, after);
+}
+
+/* One draw: the waiting words are handed out, or the next eight blocks are made and leave words waiting, with the number of their group. */
+static void expect_one_draw(const struct call *c, const uint8_t *form, const uint8_t *out, const uint8_t *after) {
+    int held = form[24];
+    uint64_t counter = word_at(form + 16);
+    uint8_t half[64];
+    expect(c, "key and stream kept", (uint64_t)same(after, form, 16), 1);
+    expect(c, "counter", word_at(after + 16), counter + (held ? 0 : 8));
+    expect(c, "mark", word_at(after + 24), !held);
+    expect(c, "number", word_at(after + 96), held ? 0 : counter);
+    if (held) expect(c, "the waiting words handed out", (uint64_t)same(out, form + 32, 64), 1);
+    if (held) expect(c, "no words left", (uint64_t)all_zero(after + 32, 64), 1);
+    if (held) return;
+    put_half(half, form, counter, 0);
+    expect(c, "the lower words handed out", (uint64_t)same(out, half, 64), 1);
+    put_half(half, form, counter, 1);
+    expect(c, "the upper words wait", (uint64_t)same(after + 32, half, 64), 1);
+}
+
+/* Each of the 104 bytes set to other values, in a form without waiting words and in ones with them, also after group calls. */
+static void damaged_philox(int waiting, uint64_t groups) {
+    uint8_t good[ROOM], form[104], out[64], after[104];
+    put_philox(good, waiting, groups);
+    for (int i = 0; i < 104; i++) {
         for (int x = 0; x < 256; x += tight && x > 2 && x < 254 ? 25 : 1) {
-            memcpy(form, good, 96);
+            struct call c = {"gp_philox_fill of a form with one byte set", 104, (uint64_t)i, (uint64_t)x};
+            memcpy(form, good, 104);
             form[i] = (uint8_t)x;
-            int fault = philox_fault(form, 96);
-            try_seek(form, 96, noise(), NULL);
-            try_skip(&philox, form, 96, noise() % 8, NULL);
-            try_draws_left(form, 96);
-            try_fill(&philox, form, 96, 0, 3, fault ? -2 : -4, NULL, NULL);
-            try_fill(&philox, form, 96, 1, 64, fault ? -2 : 1, out, after);
-            if (fault) continue;
-            /* one draw: the waiting words are handed out, or the next eight blocks are made and leave words waiting */
-            struct call c = {"gp_philox_fill of a form with one byte set", 96, (uint64_t)i, (uint64_t)x};
-            int held = form[24];
-            expect(&c, "key and stream kept", (uint64_t)same(after, form, 16), 1);
-            expect(&c, "counter", word_at(after + 16), word_at(form + 16) + (held ? 0 : 8));
-            expect(&c, "mark", word_at(after + 24), !held);
-            if (held) expect(&c, "the waiting words handed out", (uint64_t)same(out, form + 32, 64), 1);
-            if (held) expect(&c, "no words left", (uint64_t)all_zero(after + 32, 64), 1);
+            try_philox_form(form, out, after);
+            if (!philox_fault(form, 104)) expect_one_draw(&c, form, out, after);
         }
+    }
+}
+
+/* Groups at the last blocks of a stream, some of whose blocks are the first again. */
+static void last_groups(void) {
+    for (uint64_t first = (uint64_t)-20; first != 10; first++) {
+        struct call c = {"gp_philox_fill at the last blocks", 104, first, 0};
+        uint8_t form[ROOM], out[64], after[104];
+        put_philox(form, 0, 0);
+        put_word(form + 16, first);
+        try_philox_form(form, out, after);
+        expect_one_draw(&c, form, out, after);
+        memcpy(form, after, 104);
+        try_philox_form(form, out, after);
+        expect_one_draw(&c, form, out, after);
     }
 }
 
@@ -417,13 +552,13 @@ static void replay(const struct line *l, const struct engine **e, uint8_t *form)
         number = try_xoshiro_new(l->a, l->b, 256, form);
     } else if (!strcmp(l->call, "philox")) {
         *e = &philox;
-        try_philox_new(l->a, l->b, 96, form);
+        try_philox_new(l->a, l->b, 104, form);
     } else if (!strcmp(l->call, "jump_blocks")) {
         number = try_jump_blocks(before, 256, l->a, form);
     } else if (!strcmp(l->call, "skip")) {
         try_skip(*e, before, (*e)->length, l->a, form);
     } else if (!strcmp(l->call, "seek")) {
-        try_seek(before, 96, l->a, form);
+        try_seek(before, 104, l->a, form);
     } else if (!strcmp(l->call, "fill") && l->a >= 1 && l->a <= 6) {
         out_len = l->b * kinds[l->a].width;
         out = malloc(out_len + 1);
@@ -433,7 +568,7 @@ static void replay(const struct line *l, const struct engine **e, uint8_t *form)
     }
     expect(&c, "digest of the output", digest(out, out_len), l->out);
     expect(&c, "digest of the form", digest(form, (*e)->length), l->form);
-    if (*e == &philox) number = (uint64_t)gp_philox_draws_left(form, 96);
+    if (*e == &philox) number = (uint64_t)gp_philox_draws_left(form, 104);
     expect(&c, "jumps, or draws left", number, l->number);
     free(out);
 }
@@ -471,13 +606,19 @@ static void nulls(void) {
         expect(&c, "fill of a null form, Philox", (uint64_t)gp_philox_fill(NULL, 0, kind, NULL, 0), (uint64_t)-1);
     }
     expect(&c, "form", (uint64_t)same(form, before, 256), 1);
-    put_philox(form, 1);
-    memcpy(before, form, 96);
-    for (uint64_t kind = 1; kind <= 6; kind++) expect(&c, "fill of no bytes, Philox", (uint64_t)gp_philox_fill(form, 96, kind, NULL, 0), 0);
-    expect(&c, "form, Philox", (uint64_t)same(form, before, 96), 1);
+    put_philox(form, 1, 1);
+    memcpy(before, form, 104);
+    for (uint64_t kind = 1; kind <= 6; kind++)
+        expect(&c, "fill of no bytes, Philox", (uint64_t)gp_philox_fill(form, 104, kind, NULL, 0), 0);
+    expect(&c, "gp_philox_to_96 to null", (uint64_t)gp_philox_to_96(form, 104, NULL, 0), (uint64_t)-1);
+    expect(&c, "gp_philox_to_96 of null", (uint64_t)gp_philox_to_96(NULL, 0, form, 96), (uint64_t)-1);
+    expect(&c, "gp_philox_from_96 to null", (uint64_t)gp_philox_from_96(form, 96, NULL, 0), (uint64_t)-1);
+    expect(&c, "gp_philox_from_96 of null", (uint64_t)gp_philox_from_96(NULL, 0, form, 104), (uint64_t)-1);
+    expect(&c, "form, Philox", (uint64_t)same(form, before, 104), 1);
     expect(&c, "gp_xoshiro_new", (uint64_t)gp_xoshiro_new(1, 2, NULL, 0, &jumps), (uint64_t)-1);
     expect(&c, "gp_xoshiro_jump_blocks", (uint64_t)gp_xoshiro_jump_blocks(NULL, 0, 1, &jumps), (uint64_t)-1);
-    expect(&c, "jumps", jumps, 12345);
+    expect(&c, "gp_philox_label", (uint64_t)gp_philox_label(NULL, 0, &jumps), (uint64_t)-1);
+    expect(&c, "jumps, or the first block", jumps, 12345);
     expect(&c, "gp_philox_new", (uint64_t)gp_philox_new(1, 2, NULL, 0), (uint64_t)-1);
     expect(&c, "gp_xoshiro_skip", (uint64_t)gp_xoshiro_skip(NULL, 0, 1), (uint64_t)-1);
     expect(&c, "gp_philox_skip", (uint64_t)gp_philox_skip(NULL, 0, 1), (uint64_t)-1);
@@ -496,8 +637,10 @@ int main(int count, char **words) {
     nulls();
     faults_together();
     every_form_length();
-    damaged_philox(0);
-    damaged_philox(1);
+    damaged_philox(0, 0);
+    damaged_philox(1, 0);
+    damaged_philox(1, 1);
+    last_groups();
     damaged_xoshiro();
     replay_file(words[1]);
     printf("  host.c: %lu checks, %lu failures\n", checks, failures);

@@ -1,10 +1,13 @@
 """Tests the shared object from Python: host.py LIBRARY EXPECTED
 
 Words, unit floats, draws and forms are held to models of both engines, written here and in tests/xoshiro256pp.py from the published
-definitions (Blackman and Vigna; Salmon et al. 2011) and the scope document; normals to the Box-Muller formula, within rounding; and all of
-it, bit for bit, to the Rust's answers in EXPECTED (tests/host/expected.txt)."""
+definitions (Blackman and Vigna; Salmon et al. 2011), the scope document and the customers' changes to it; normals to the Box-Muller
+formula, within rounding; and all of it, bit for bit, to the Rust's answers in EXPECTED (tests/host/expected.txt)."""
 import ctypes
+import functools
+import itertools
 import math
+import mmap
 import os
 import random
 import struct
@@ -87,6 +90,18 @@ def philox_block(counter, key):
     return c
 
 
+@functools.lru_cache(maxsize=2000)
+def philox_group(k0, k1, stream, first):
+    """The lower and the upper words of the eight blocks from block `first` on, modulo 2^64."""
+    lower, upper = [], []
+    for i in range(8):
+        n = (first + i) & M64
+        w = philox_block((n & M32, n >> 32, stream & M32, stream >> 32), (k0, k1))
+        lower.append(w[0] | w[1] << 32)
+        upper.append(w[2] | w[3] << 32)
+    return lower, upper
+
+
 class Xoshiro:
     name, length = "xoshiro", 256
 
@@ -126,34 +141,38 @@ class Xoshiro:
 
 
 class Philox:
-    name, length = "philox", 96
+    """The scope document's machine, and the first block of the group whose words wait, 0 if none do."""
+
+    name, length = "philox", 104
 
     def __init__(self, form):
-        self.k0, self.k1, self.stream, self.counter, self.mark, *self.waiting = struct.unpack("<2I11Q", form)
+        self.k0, self.k1, self.stream, self.counter, self.mark, *self.waiting, self.first = struct.unpack("<2I12Q", form)
 
     def form(self):
-        return struct.pack("<2I11Q", self.k0, self.k1, self.stream, self.counter, self.mark, *self.waiting)
+        return struct.pack("<2I12Q", self.k0, self.k1, self.stream, self.counter, self.mark, *self.waiting, self.first)
+
+    def group(self, first):
+        return philox_group(self.k0, self.k1, self.stream, first)
 
     def draw(self):
         if self.mark:
-            words, self.mark, self.waiting = self.waiting, 0, [0] * 8
+            words, self.mark, self.waiting, self.first = self.waiting, 0, [0] * 8, 0
             return words
-        low = []
-        self.mark, self.waiting = 1, []
-        for i in range(8):
-            n = (self.counter + i) & M64
-            w = philox_block((n & M32, n >> 32, self.stream & M32, self.stream >> 32), (self.k0, self.k1))
-            low.append(w[0] | w[1] << 32)
-            self.waiting.append(w[2] | w[3] << 32)
+        lower, self.waiting = self.group(self.counter)
+        self.mark, self.first = 1, self.counter
         self.counter = (self.counter + 8) & M64
-        return low
+        return lower
+
+    def label(self):
+        """Of the next draw: 0 for the lower half or 1 for the upper, and the first block of its group."""
+        return (1, self.first) if self.mark else (0, self.counter)
 
     def blocks(self):
-        """A group call, whose words are not looked at: what waits goes on waiting."""
+        """A group call, whose words are not looked at: what waits goes on waiting, and keeps its number."""
         self.counter = (self.counter + 8) & M64
 
     def seek(self, block):
-        self.counter, self.mark, self.waiting = block, 0, [0] * 8
+        self.counter, self.mark, self.waiting, self.first = block, 0, [0] * 8, 0
 
     def skip(self, n):
         """One by one, where that does not take long; else by the scope document's counter, a + 8 (d / 2 rounded up) after d draws."""
@@ -177,10 +196,26 @@ class Philox:
 
     @staticmethod
     def fault(form):
-        if len(form) != 96:
+        if len(form) != 104:
             return 1
-        mark = int.from_bytes(form[24:32], "little")
-        return 2 if mark > 1 or mark == 0 and any(form[32:]) else 0
+        model = Philox(form)
+        if model.mark > 1 or model.mark == 0 and any(form[32:]):
+            return 2
+        return 14 if model.mark and list(model.waiting) != model.group(model.first)[1] else 0
+
+    @staticmethod
+    def moved(old):
+        """What a form of 96 bytes becomes: its number is counter - 8 modulo 2^64 if words wait, else 0. And its refusal."""
+        if len(old) != 96:
+            return 1, b""
+        counter, mark = struct.unpack("<2Q", old[16:32])
+        form = old + struct.pack("<Q", (counter - 8) & M64 if mark == 1 else 0)
+        return Philox.fault(form), form
+
+
+def lowest(*faults):
+    """The refusal that is answered where several apply, 0 for none."""
+    return min((fault for fault in faults if fault), default=0)
 
 
 def halves(words):
@@ -257,6 +292,24 @@ class Lent:
         return raw[start : start + self.length]
 
 
+class Edge:
+    """A buffer between noise and a page that may be neither read nor written: a call that goes there ends the test."""
+
+    def __init__(self, content):
+        self.memory, self.length = mmap.mmap(-1, 2 * mmap.PAGESIZE), len(content)
+        self.before = chance.randbytes(64)
+        self.memory[mmap.PAGESIZE - len(content) - 64 : mmap.PAGESIZE] = self.before + content
+        end = ctypes.addressof(ctypes.c_char.from_buffer(self.memory)) + mmap.PAGESIZE
+        if ctypes.CDLL(None).mprotect(ctypes.c_void_p(end), ctypes.c_size_t(mmap.PAGESIZE), 0):
+            raise OSError("mprotect")
+        self.at = ctypes.c_void_p(end - len(content))
+
+    def content(self, what):
+        start = mmap.PAGESIZE - self.length
+        expect(f"{what}: bytes before", self.memory[start - 64 : start], self.before)
+        return self.memory[start : mmap.PAGESIZE]
+
+
 def declared(path):
     lib = ctypes.CDLL(path)
     u64, size, bytes_at, number_at = ctypes.c_uint64, ctypes.c_size_t, ctypes.c_void_p, ctypes.POINTER(ctypes.c_uint64)
@@ -270,6 +323,9 @@ def declared(path):
         "gp_philox_seek": (bytes_at, size, u64),
         "gp_philox_skip": (bytes_at, size, u64),
         "gp_philox_draws_left": (bytes_at, size),
+        "gp_philox_label": (bytes_at, size, number_at),
+        "gp_philox_from_96": (bytes_at, size, bytes_at, size),
+        "gp_philox_to_96": (bytes_at, size, bytes_at, size),
     }.items():
         call = getattr(lib, name)
         call.argtypes, call.restype = words, ctypes.c_int64
@@ -279,16 +335,16 @@ def declared(path):
 class Host:
     """The library's calls on bytes: each answers the answer, the number beside it, the form after it and the output."""
 
-    def __init__(self, path):
-        self.lib = declared(path)
+    def __init__(self, path, lend=Lent):
+        self.lib, self.lend = declared(path), lend
 
     def called(self, name, form, make):
-        f, number = Lent(form), ctypes.c_uint64(987654321)
+        f, number = self.lend(form), ctypes.c_uint64(987654321)
         answer = make(getattr(self.lib, name), f.at, len(form), number)
         return answer, number.value, f.content(f"{name}, form")
 
     def fill(self, engine, form, kind, out):
-        o, name = Lent(out), f"gp_{engine.name}_fill"
+        o, name = self.lend(out), f"gp_{engine.name}_fill"
         answer, _, after = self.called(name, form, lambda call, at, n, _: call(at, n, kind, o.at, len(out)))
         return answer, after, o.content(f"{name}, output")
 
@@ -310,6 +366,21 @@ class Host:
     def draws_left(self, form):
         return self.called("gp_philox_draws_left", form, lambda call, at, n, _: call(at, n))
 
+    def label(self, form):
+        return self.called("gp_philox_label", form, lambda call, at, n, first: call(at, n, first))
+
+    def moved(self, name, source, target):
+        """A move answers the answer, what it was made from and what it was written to."""
+        t = self.lend(target)
+        answer, _, after = self.called(name, source, lambda call, at, n, _: call(at, n, t.at, len(target)))
+        return answer, after, t.content(f"{name}, target")
+
+    def from_96(self, old, form):
+        return self.moved("gp_philox_from_96", old, form)
+
+    def to_96(self, form, old):
+        return self.moved("gp_philox_to_96", form, old)
+
 
 UNTOUCHED = 987654321
 
@@ -319,7 +390,7 @@ def try_fill(host, engine, form, kind, length):
     what = f"{engine.name} fill, form {form[:40].hex()}.. of {len(form)}, kind {kind}, {length} bytes"
     before = chance.randbytes(length)
     answer, after, out = host.fill(engine, form, kind, before)
-    fault = engine.fault(form) or (4 if kind not in KINDS else 5 if length % KINDS[kind][0] else 0)
+    fault = lowest(engine.fault(form), 4 if kind not in KINDS else 5 if length % KINDS[kind][0] else 0)
     if fault:
         expect(what, (answer, after, out), (-fault, form, before))
         return form
@@ -334,6 +405,39 @@ def try_fill(host, engine, form, kind, length):
 def try_draws_left(host, form):
     answer = -Philox.fault(form) or Philox(form).draws_left()
     expect(f"draws_left, form {form.hex()}", host.draws_left(form), (answer, UNTOUCHED, form))
+
+
+def try_label(host, form):
+    fault = Philox.fault(form)
+    answer, first = (-fault, UNTOUCHED) if fault else Philox(form).label()
+    expect(f"label, form {form.hex()}", host.label(form), (answer, first, form))
+
+
+def try_to_96(host, form, length=96):
+    noise = chance.randbytes(length)
+    fault = lowest(Philox.fault(form), length != 96)
+    expected = (-fault, form, noise if fault else form[:96])
+    expect(f"to_96, {length} bytes, form {form.hex()}", host.to_96(form, noise), expected)
+
+
+def try_from_96(host, old, length=104):
+    """And back, where it is accepted."""
+    noise = chance.randbytes(length)
+    fault, form = Philox.moved(old)
+    fault = lowest(fault, length != 104)
+    expect(f"from_96 of {old.hex()} to {length} bytes", host.from_96(old, noise), (-fault, old, noise if fault else form))
+    if not fault:
+        expect(f"from_96 and to_96 of {old.hex()}", host.to_96(form, chance.randbytes(96)), (0, form, old))
+
+
+def told(host, form):
+    """What a Philox form tells, and both moves, which are refused where the other length is wrong, whatever else is."""
+    try_label(host, form)
+    try_draws_left(host, form)
+    try_to_96(host, form)
+    try_to_96(host, form, chance.choice((0, 95, 97, 104)))
+    try_from_96(host, form[:96])
+    try_from_96(host, form[:96], chance.choice((0, 96, 103, 105)))
 
 
 def some_number():
@@ -375,9 +479,9 @@ def try_own(host, engine, form):
     form = try_skip(host, engine, form, some_number())
     if engine is Xoshiro:
         return try_move(host, form, chance.choice((1, 2**61, 5 * 2**61, some_number())))
-    try_draws_left(host, form)
+    told(host, form)
     block = some_block()
-    after = form if fault else form[:16] + struct.pack("<Q", block) + bytes(72)
+    after = form if fault else form[:16] + struct.pack("<Q", block) + bytes(80)
     expect(f"seek({block}), form {form.hex()}", host.seek(form, block), (-fault, UNTOUCHED, after))
     return after
 
@@ -396,13 +500,13 @@ def starts(host):
             form = struct.pack("<32Q", *(lanes[jumps + i][row] for row in range(4) for i in range(8)))
             expect(f"xoshiro_new({seed}, {block})", host.xoshiro_new(seed, block, chance.randbytes(256)), (0, jumps, form))
         for place in (0, 1, 2**32, M64, chance.getrandbits(64)):
-            form = struct.pack("<2I2Q", seed & M32, seed >> 32, place, 0) + bytes(72)
-            expect(f"philox_new({seed}, {place})", host.philox_new(seed, place, chance.randbytes(96)), (0, UNTOUCHED, form))
-    for length in (0, 1, 95, 96, 97, 192, 255, 256, 257, 512):
+            form = struct.pack("<2I2Q", seed & M32, seed >> 32, place, 0) + bytes(80)
+            expect(f"philox_new({seed}, {place})", host.philox_new(seed, place, chance.randbytes(104)), (0, UNTOUCHED, form))
+    for length in (0, 1, 95, 96, 97, 103, 104, 105, 192, 208, 255, 256, 257, 512):
         noise = chance.randbytes(length)
         if length != 256:
             expect(f"xoshiro_new, form length {length}", host.xoshiro_new(1, 2**50, noise), (-1, UNTOUCHED, noise))
-        if length != 96:
+        if length != 104:
             expect(f"philox_new, form length {length}", host.philox_new(1, 2, noise), (-1, UNTOUCHED, noise))
 
 
@@ -450,12 +554,20 @@ def distances(host):
 
 
 def good_form(engine, mark=None):
-    form = chance.randbytes(engine.length)
-    if engine is Philox:
-        counter = chance.choice((0, chance.getrandbits(64), M64 - chance.randrange(300), 2**32 - chance.randrange(300)))
-        mark = chance.randrange(2) if mark is None else mark
-        form = form[:16] + struct.pack("<2Q", counter, mark) + (form[32:] if mark else bytes(64))
-    return form
+    return chance.randbytes(256) if engine is Xoshiro else philox_form(chance.randrange(2) if mark is None else mark)
+
+
+def philox_form(mark, groups=None):
+    """A form with words that wait, or without. Between the draw that left them and the saving were so many group calls, or any counter."""
+    counter = chance.choice((0, chance.getrandbits(64), M64 - chance.randrange(300), 2**32 - chance.randrange(300)))
+    model = Philox(chance.randbytes(16) + struct.pack("<Q", counter) + bytes(80))
+    if not mark:
+        return model.form()
+    groups = chance.choice((0, 0, 0, 1, 2, chance.randrange(100), M64)) if groups is None else groups
+    model.seek((counter - 8 - 8 * groups) & M64)
+    model.draw()
+    model.counter = counter if groups < M64 else chance.getrandbits(64)
+    return model.form()
 
 
 def lists(host, engine, count):
@@ -474,10 +586,13 @@ def lists(host, engine, count):
                 form = try_fill(host, engine, form, chance.choice(NO_KIND), length)
             else:
                 form = try_own(host, engine, form)
+            if engine is Philox:
+                told(host, form)
 
 
-def draws_left(host):
-    """After draws, group calls and seeks, which the model makes, at the counter's end and elsewhere. First where most are left."""
+def saved(host):
+    """What forms tell after draws, group calls and seeks, which the model makes, at the counter's end and elsewhere. First where most are
+    left."""
     most = Philox(good_form(Philox))
     most.seek(2**64 - 8)
     most.draw()
@@ -492,37 +607,165 @@ def draws_left(host):
                 model.blocks()
             else:
                 model.seek(some_block())
-            try_draws_left(host, model.form())
+            told(host, model.form())
+            expect(f"a generator that was saved is accepted, {model.form().hex()}", host.label(model.form())[0] >= 0, True)
+
+
+def named(host):
+    """The label that the library answers is that of the words which the next fill writes: the half of the group that it names."""
+    for mark in (0, 1) * 30:
+        form = philox_form(mark)
+        model = Philox(form)
+        for _ in range(4):
+            half, first, _ = host.label(form)
+            expect(f"label, form {form.hex()}", (half, first), model.label())
+            _, form, out = host.fill(Philox, form, 1, bytes(64))
+            expect(f"words of half {half} of the group at {first}", list(struct.unpack("<8Q", out)), model.group(first)[half])
+            model.draw()
+
+
+def between(host):
+    """Forms that were saved after group calls, between the two draws of a group: the number is not counter - 8."""
+    for groups in (1, 2, 3, 1000, 2**61 - 1) * 4:
+        form = philox_form(1, groups)
+        model = Philox(form)
+        expect("model: another number", model.first, (model.counter - 8 - 8 * groups) & M64)
+        noise = chance.randbytes(104)
+        expect(f"from_96 after {groups} group calls", host.from_96(form[:96], noise), (-14, form[:96], noise))
+        expect(f"to_96 after {groups} group calls", host.to_96(form, noise[:96]), (0, form, form[:96]))
+        expect(f"label after {groups} group calls", host.label(form), (1, model.first, form))
+        for kind in KINDS:
+            try_fill(host, Philox, form, kind, 0)
+            try_fill(host, Philox, form, kind, 160)
+        expect("the words that wait", host.fill(Philox, form, 1, bytes(64))[::2], (1, form[32:96]))
+
+
+def at_the_end(host):
+    """Groups at the last blocks of a stream, some of whose blocks are the first again, and what follows them."""
+    for first in (*range(2**64 - 20, 2**64), *range(10)):
+        model = Philox(philox_form(0))
+        model.seek(first)
+        told(host, model.form())
+        model.draw()
+        told(host, model.form())
+        expect(f"label, group at {first}", host.label(model.form())[:2], (1, first))
+        try_from_96(host, model.form()[:96])
+        model.blocks()
+        told(host, model.form())
+        try_fill(host, Philox, try_fill(host, Philox, model.form(), 6, 136), 1, 200)
+
+
+def values_at(form):
+    """A form with each byte set to other values."""
+    for at in range(len(form)):
+        for value in {0, 1, 2, 128, 255, form[at] ^ 1, chance.randrange(256)}:
+            yield form[:at] + bytes([value]) + form[at + 1 :]
 
 
 def damaged(engine):
     """Good forms and forms damaged in many ways: another length; every byte; marks; lanes, words and all but one byte of a lane zeroed."""
-    for _ in range(3):
-        form = good_form(engine)
+    for mark in (0, 1, 1):
+        form = good_form(engine, mark)
         yield form
-        for length in (0, 1, engine.length - 1, engine.length + 1, 2 * engine.length, 352 - engine.length):
+        for length in (0, 1, 96, engine.length - 1, engine.length + 1, 2 * engine.length, 360 - engine.length):
             yield (form + chance.randbytes(engine.length))[:length]
-        for at in range(engine.length):
-            for value in {0, 1, 2, 128, 255, chance.randrange(256)}:
-                yield form[:at] + bytes([value]) + form[at + 1 :]
-        if engine is Philox:
-            for mark in (0, 1, 2, 3, 256, 257, 2**32, 2**32 + 1, 2**63, M64):
-                yield form[:24] + struct.pack("<Q", mark) + form[32:]
-                yield form[:24] + struct.pack("<Q", mark) + bytes(64)
-            continue
-        for lane in range(8):
-            places = [64 * row + 8 * lane + i for row in range(4) for i in range(8)]
-            for spared in [None] + places:
-                yield bytes(0 if at in places and at != spared else byte or 1 for at, byte in enumerate(form))
-        for word in range(32):
-            yield form[: 8 * word] + bytes(8) + form[8 * word + 8 :]
-        yield bytes(256)
+        yield from values_at(form)
+        yield from damaged_philox(form) if engine is Philox else damaged_xoshiro(form)
+
+
+def damaged_philox(form):
+    """Other marks, with the words and the number or without; words in another order; other numbers."""
+    for mark in (0, 1, 2, 3, 256, 257, 2**32, 2**32 + 1, 2**63, M64):
+        for rest in form[32:], bytes(72), form[32:96] + bytes(8), bytes(64) + form[96:]:
+            yield form[:24] + struct.pack("<Q", mark) + rest
+    yield form[:32] + form[40:96] + form[32:40] + form[96:]
+    number = Philox(form).first
+    for other in (number + 1, number - 1, number + 8, number - 8, number ^ 2**63, number ^ 2**32, Philox(form).counter, 0):
+        yield form[:96] + struct.pack("<Q", other & M64)
+
+
+def damaged_xoshiro(form):
+    for lane in range(8):
+        places = [64 * row + 8 * lane + i for row in range(4) for i in range(8)]
+        for spared in [None] + places:
+            yield bytes(0 if at in places and at != spared else byte or 1 for at, byte in enumerate(form))
+    for word in range(32):
+        yield form[: 8 * word] + bytes(8) + form[8 * word + 8 :]
+    yield bytes(256)
+
+
+def old_forms(host):
+    """Forms of 96 bytes that were saved between two draws and elsewhere, each with every byte set to other values."""
+    for mark in (0, 1, 0, 1):
+        old = philox_form(mark, 0)[:96]
+        expect("model: such a form is accepted", Philox.moved(old)[0], 0)
+        try_from_96(host, old)
+        for other in values_at(old):
+            try_from_96(host, other)
+
+
+def move_lengths(host):
+    """Every length of either part of a move, to 120 bytes."""
+    form = philox_form(1, 0)
+    for source, target in itertools.product(range(121), repeat=2):
+        content = (form[:96] + chance.randbytes(24))[:source]
+        fault = 0 if (source, target) == (96, 104) else -1
+        noise = chance.randbytes(target)
+        expect(f"from_96, {source} to {target} bytes", host.from_96(content, noise), (fault, content, noise if fault else form))
+        content = (form + chance.randbytes(16))[:source]
+        fault = 0 if (source, target) == (104, 96) else -1
+        expect(f"to_96, {source} to {target} bytes", host.to_96(content, noise), (fault, content, noise if fault else form[:96]))
+
+
+def order_of_refusals(host):
+    """Every set of what a fill is refused for: the lowest is answered, and a wrong group, 14, comes after kind and output length."""
+    for chosen in itertools.product((0, 1), repeat=5):
+        faults = [fault for fault, wrong in zip((1, 2, 4, 5, 14), chosen) if wrong]
+        for _ in range(6):
+            form = bytearray(philox_form(1))
+            if 14 in faults:
+                form[chance.randrange(32, 104)] ^= 1 << chance.randrange(8)
+            if 2 in faults:
+                form[24] = chance.choice((0, 2, 255))
+            form = bytes(form) + (chance.randbytes(chance.choice((1, 8, 152))) if 1 in faults else b"")
+            kind = chance.choice(NO_KIND if 4 in faults else tuple(KINDS))
+            out = chance.randbytes(chance.choice((65, 67, 161)) if 5 in faults else 64)
+            answer, after, written = host.fill(Philox, form, kind, out)
+            expect(f"fill with the faults {faults}", min(answer, 0), -lowest(*faults))
+            if faults:
+                expect(f"fill with the faults {faults}, bytes", (after, written), (form, out))
+            try_fill(host, Philox, form, kind, len(out))
+
+
+def old_callers(edge):
+    """A caller that still lends 96 bytes is refused by every call, and no byte beyond them is read or written. And what is accepted reads
+    and writes no byte beyond what it is lent."""
+    for mark in (0, 1) * 3:
+        form = philox_form(mark, 0)
+        old, out = form[:96], chance.randbytes(64)
+        for kind in (*KINDS, 0, 7):
+            expect("fill, 96 bytes", edge.fill(Philox, old, kind, out), (-1, old, out))
+        expect("philox_new, 96 bytes", edge.philox_new(1, 2, old), (-1, UNTOUCHED, old))
+        expect("seek, 96 bytes", edge.seek(old, 8), (-1, UNTOUCHED, old))
+        expect("skip, 96 bytes", edge.skip(Philox, old, 3), (-1, UNTOUCHED, old))
+        expect("draws_left, 96 bytes", edge.draws_left(old), (-1, UNTOUCHED, old))
+        expect("label, 96 bytes", edge.label(old), (-1, UNTOUCHED, old))
+        expect("to_96 of 96 bytes", edge.to_96(old, out), (-1, old, out))
+        expect("from_96 to 96 bytes", edge.from_96(old, old), (-1, old, old))
+        told(edge, form)
+        try_own(edge, Philox, form)
+        for kind, (width, _, _) in KINDS.items():
+            try_fill(edge, Philox, form, kind, 37 * width)
+        for length in (0, 1, 31, 32, 95, 97, 103, 105, 112):
+            told(edge, (form + chance.randbytes(8))[:length])
 
 
 def refusals(host, engine):
     for form in damaged(engine):
         kind = chance.choice((1, 2, 3, 4, 5, 6) + NO_KIND)
         try_fill(host, engine, form, kind, chance.choice((0, 4, 8, 64, 65, 66)))
+        if engine is Philox:
+            told(host, form)
         if engine.fault(form) or engine is Philox:
             try_own(host, engine, form)
     form = good_form(engine)
@@ -546,7 +789,7 @@ def replayed(host, path):
         elif call == "xoshiro":
             engine, (found, beside, form) = Xoshiro, host.xoshiro_new(a, b, bytes(256))
         elif call == "philox":
-            engine, (found, _, form) = Philox, host.philox_new(a, b, bytes(96))
+            engine, (found, _, form) = Philox, host.philox_new(a, b, bytes(104))
         elif call == "jump_blocks":
             found, beside, form = host.jump_blocks(form, a)
         elif call == "skip":
@@ -568,7 +811,9 @@ def main(library, expected):
     for engine in Xoshiro, Philox:
         lists(host, engine, 60)
         refusals(host, engine)
-    draws_left(host)
+    for test in saved, named, between, at_the_end, old_forms, move_lengths, order_of_refusals:
+        test(host)
+    old_callers(Host(library, Edge))
     replayed(host, expected)
     print(f"  host.py: {checks} checks, {failures} failures")
     return failures != 0

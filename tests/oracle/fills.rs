@@ -1,12 +1,12 @@
 //! Our engines and their fills, linked as static libraries, against the Rust's: the same calls on both sides, and after each of them the
 //! same bits in the lent buffer and around it, the same words handed out, and the same generator. The Rust counts neither draws nor jumps
-//! nor steps nor draws left, and refuses nothing: those numbers are the customers'. The argument is how many lists of mixed calls each
-//! engine gets, and how many random states are jumped from.
+//! nor steps nor draws left, labels nothing and refuses nothing: those numbers are the customers'. The argument is how many lists of mixed
+//! calls each engine gets, and how many random states are jumped from.
 mod common;
 mod forms;
 use common::{Count, Random};
-use forms::{draws_left, kind, walked, Kind, KINDS, STEPS};
-use tpt_simd_rng::{Philox4x32X8, Rng8, Xoshiro256pp, Xoshiro256ppX8};
+use forms::{kind, walked, Kind, Numbered, KINDS, STEPS};
+use tpt_simd_rng::{Rng8, Xoshiro256pp, Xoshiro256ppX8};
 
 /// An element from any bits, and its bytes.
 trait Element: Copy {
@@ -68,6 +68,8 @@ fn expected<R: Rng8>(rust: &mut R, kind: u64, n: usize) -> Vec<u8> {
 /// Our generator beside the Rust's.
 trait Engine: Sized {
     type Rust: Rng8;
+    /// What a draw returns beside its words, and a fill for its first draw.
+    type Label: PartialEq + std::fmt::Debug;
     const NAME: &'static str;
     fn rust(&mut self) -> &mut Self::Rust;
     fn same(&self) -> bool;
@@ -76,10 +78,14 @@ trait Engine: Sized {
         true
     }
 
-    // Our calls. A fill of n elements answers its draws, a fill of n bytes the refusal's number and its draws.
-    fn fill(&mut self, kind: u64, n: usize) -> (Vec<u8>, u64);
-    fn fill_bytes(&mut self, kind: u64, n: usize) -> (Vec<u8>, (u64, u64));
-    fn draw(&mut self) -> [u64; 8];
+    /// The label that the next draw should have, and that of a refused call, zero bits.
+    fn next_label(&self) -> Self::Label;
+    fn no_label() -> Self::Label;
+
+    // Our calls. A fill of n elements answers its draws and its label, a fill of n bytes the refusal's number before them.
+    fn fill(&mut self, kind: u64, n: usize) -> (Vec<u8>, (u64, Self::Label));
+    fn fill_bytes(&mut self, kind: u64, n: usize) -> (Vec<u8>, (u64, u64, Self::Label));
+    fn draw(&mut self) -> ([u64; 8], Self::Label);
 
     // On both sides: one of some starts, a random start, and a random call that this engine alone has.
     fn start(which: u64, count: &mut Count) -> Self;
@@ -99,40 +105,44 @@ trait Engine: Sized {
     }
 
     fn typed(&mut self, kind: &Kind, n: usize, count: &mut Count) {
-        let (ours, draws) = self.fill(kind.number, n);
+        let answer = (kind.draws_for(n), self.next_label());
+        let (ours, found) = self.fill(kind.number, n);
         let after = expected(self.rust(), kind.number, n);
-        let right = ours == after && draws == kind.draws_for(n);
+        let right = ours == after && found == answer;
         count.fills += 1;
         count.elements += n as u64;
-        self.check(right, || format!("{} of {n} elements, {draws} draws{}", kind.name, first_unlike(&ours, &after)), count);
+        let what = || format!("{} of {n} elements, {found:?} for {answer:?}{}", kind.name, first_unlike(&ours, &after));
+        self.check(right, what, count);
     }
 
     /// A fill of n bytes, against the bytes of the Rust's elements. Where it should be refused, nothing happens on the Rust's side.
     fn bytes(&mut self, number: u64, n: usize, count: &mut Count) {
-        let kind = kind(number);
-        let (ours, (refusal, draws)) = self.fill_bytes(number, n);
+        let (kind, label) = (kind(number), self.next_label());
+        let (ours, found) = self.fill_bytes(number, n);
         let (answer, after) = match kind {
             Some(kind) if n % kind.width == 0 => {
                 let whole = expected(self.rust(), number, n / kind.width);
                 let guard = (whole.len() - n) / 2;
                 count.fills += 1;
                 count.elements += (n / kind.width) as u64;
-                ((0, kind.draws_for(n / kind.width)), lent(n, |out: &mut [u8]| out.copy_from_slice(&whole[guard..guard + n])).0)
+                ((0, kind.draws_for(n / kind.width), label), lent(n, |out: &mut [u8]| out.copy_from_slice(&whole[guard..guard + n])).0)
             }
             _ => {
                 count.refused += 1;
-                ((if kind.is_none() { 4 } else { 5 }, 0), lent(n, |_: &mut [u8]| ()).0)
+                ((if kind.is_none() { 4 } else { 5 }, 0, Self::no_label()), lent(n, |_: &mut [u8]| ()).0)
             }
         };
-        let right = ours == after && (refusal, draws) == answer;
-        let what = || format!("fill_bytes of kind {number}, {n} bytes, refusal {refusal}, {draws} draws{}", first_unlike(&ours, &after));
+        let right = ours == after && found == answer;
+        let what = || format!("fill_bytes of kind {number}, {n} bytes, {found:?} for {answer:?}{}", first_unlike(&ours, &after));
         self.check(right, what, count);
     }
 
     fn single(&mut self, count: &mut Count) {
-        let right = self.draw() == self.rust().next_u64x8();
+        let label = self.next_label();
+        let found = self.draw();
+        let expected = (self.rust().next_u64x8(), label);
         count.others += 1;
-        self.check(right, || "next_u64x8".to_string(), count);
+        self.check(found == expected, || format!("next_u64x8, {:?} for {:?}", found.1, expected.1), count);
     }
 }
 
@@ -182,6 +192,7 @@ impl Xoshiro {
 
 impl Engine for Xoshiro {
     type Rust = Xoshiro256ppX8;
+    type Label = ();
     const NAME: &'static str = "xoshiro";
 
     fn rust(&mut self) -> &mut Xoshiro256ppX8 {
@@ -191,28 +202,32 @@ impl Engine for Xoshiro {
         (0..8).all(|i| self.rust.lane(i).state() == self.s.map(|row| row[i]))
     }
 
-    fn fill(&mut self, kind: u64, n: usize) -> (Vec<u8>, u64) {
+    fn next_label(&self) {}
+    fn no_label() {}
+
+    fn fill(&mut self, kind: u64, n: usize) -> (Vec<u8>, (u64, ())) {
         let s = &mut self.s;
-        match kind {
+        let (bytes, draws) = match kind {
             1 => ours!(oracle_xoshiro_fill_u64, n, s),
             2 => ours!(oracle_xoshiro_fill_u32, n, s),
             3 => ours!(oracle_xoshiro_fill_f32, n, s),
             4 => ours!(oracle_xoshiro_fill_f64, n, s),
             5 => ours!(oracle_xoshiro_fill_normal_f32, n, s),
             _ => ours!(oracle_xoshiro_fill_normal_f64, n, s),
-        }
+        };
+        (bytes, (draws, ()))
     }
-    fn fill_bytes(&mut self, kind: u64, n: usize) -> (Vec<u8>, (u64, u64)) {
+    fn fill_bytes(&mut self, kind: u64, n: usize) -> (Vec<u8>, (u64, u64, ())) {
         let mut draws = u64::MAX; // so that a number left unwritten shows
         lent(n, |out| {
             let refusal = unsafe { oracle_xoshiro_fill_bytes(&mut self.s, kind, out.as_mut_ptr(), out.len(), &mut draws) };
-            (refusal, draws)
+            (refusal, draws, ())
         })
     }
-    fn draw(&mut self) -> [u64; 8] {
+    fn draw(&mut self) -> ([u64; 8], ()) {
         let mut words = [7; 8];
         unsafe { oracle_xoshiro_next_u64x8(&mut self.s, &mut words) };
-        words
+        (words, ())
     }
 
     fn start(which: u64, count: &mut Count) -> Self {
@@ -238,118 +253,148 @@ impl Engine for Xoshiro {
 
 // ---- Philox
 
-/// Every call that moves the generator is lent its fields first.
-macro_rules! philox {
-    ($($name:ident($($more:ident: $type:ty),*) $(-> $answer:ty)?;)*) => {
-        extern "C" {
-            $(fn $name(
-                key: &mut [u32; 2], stream: &mut u64, counter: &mut u64, waiting: &mut bool, pending: &mut [u64; 8], $($more: $type),*
-            ) $(-> $answer)?;)*
-        }
-    };
-}
-extern "C" {
-    fn oracle_philox_draws_left(key: &[u32; 2], stream: &u64, counter: &u64, waiting: &bool, pending: &[u64; 8]) -> u64;
-}
-philox! {
-    oracle_philox_new(seed: u64, id: u64);
-    oracle_philox_seek(block: u64);
-    oracle_philox_next_u64x8(words: &mut [u64; 8]);
-    oracle_philox_blocks(words: &mut [[u32; 8]; 4]);
-    oracle_philox_fill_u64(out: *mut u64, n: usize) -> u64;
-    oracle_philox_fill_u32(out: *mut u32, n: usize) -> u64;
-    oracle_philox_fill_f32(out: *mut f32, n: usize) -> u64;
-    oracle_philox_fill_f64(out: *mut f64, n: usize) -> u64;
-    oracle_philox_fill_normal_f32(out: *mut f32, n: usize) -> u64;
-    oracle_philox_fill_normal_f64(out: *mut f64, n: usize) -> u64;
-    oracle_philox_fill_bytes(kind: u64, out: *mut u8, n: usize, draws: &mut u64) -> u64;
-}
-
-struct Philox {
+/// Our generator's fields, with which every call begins.
+struct Fields {
     key: [u32; 2],
     stream: u64,
     counter: u64,
     waiting: bool,
     pending: [u64; 8],
-    rust: Philox4x32X8,
+    first: u64,
 }
+
+/// Every call is lent the fields first. One that moves the generator leaves in them the generator after it. A draw and the fills are lent
+/// then the two parts of their label.
+macro_rules! philox {
+    ($($name:ident($($more:ident: $type:ty),*) $(-> $answer:ty)?;)*) => {
+        extern "C" {
+            $(fn $name(
+                key: &mut [u32; 2], stream: &mut u64, counter: &mut u64, waiting: &mut bool, pending: &mut [u64; 8], first: &mut u64,
+                $($more: $type),*
+            ) $(-> $answer)?;)*
+        }
+    };
+}
+extern "C" {
+    fn oracle_philox_draws_left(key: &[u32; 2], stream: &u64, counter: &u64, waiting: &bool, pending: &[u64; 8], first: &u64) -> u64;
+}
+philox! {
+    oracle_philox_new(seed: u64, id: u64);
+    oracle_philox_seek(block: u64);
+    oracle_philox_next_u64x8(from: &mut u64, upper: &mut bool, words: &mut [u64; 8]);
+    oracle_philox_blocks(words: &mut [[u32; 8]; 4]);
+    oracle_philox_fill_u64(from: &mut u64, upper: &mut bool, out: *mut u64, n: usize) -> u64;
+    oracle_philox_fill_u32(from: &mut u64, upper: &mut bool, out: *mut u32, n: usize) -> u64;
+    oracle_philox_fill_f32(from: &mut u64, upper: &mut bool, out: *mut f32, n: usize) -> u64;
+    oracle_philox_fill_f64(from: &mut u64, upper: &mut bool, out: *mut f64, n: usize) -> u64;
+    oracle_philox_fill_normal_f32(from: &mut u64, upper: &mut bool, out: *mut f32, n: usize) -> u64;
+    oracle_philox_fill_normal_f64(from: &mut u64, upper: &mut bool, out: *mut f64, n: usize) -> u64;
+    oracle_philox_fill_bytes(from: &mut u64, upper: &mut bool, kind: u64, out: *mut u8, n: usize, draws: &mut u64) -> u64;
+}
+
+/// A call of ours on a generator's fields.
+macro_rules! called {
+    ($call:ident, $fields:expr $(, $more:expr)*) => {{
+        let Fields { key, stream, counter, waiting, pending, first } = $fields;
+        unsafe { $call(key, stream, counter, waiting, pending, first $(, $more)*) }
+    }};
+}
+
+/// A typed fill of ours: what it wrote, its draws and its label.
+macro_rules! labelled {
+    ($call:ident, $n:expr, $fields:expr) => {{
+        let (mut from, mut upper) = UNWRITTEN;
+        let (bytes, draws) = lent($n, |out| called!($call, $fields, &mut from, &mut upper, out.as_mut_ptr(), out.len()));
+        (bytes, (draws, (from, upper)))
+    }};
+}
+
+struct Philox {
+    ours: Fields,
+    rust: Numbered,
+}
+
+/// So that a label left unwritten shows.
+const UNWRITTEN: (u64, bool) = (987_654_321, true);
 
 impl Philox {
     fn new(seed: u64, id: u64, count: &mut Count) -> Self {
-        let rust = Philox4x32X8::new(seed, id);
-        let mut g = Philox { key: [7; 2], stream: 7, counter: 7, waiting: true, pending: [7; 8], rust };
-        let Philox { key, stream, counter, waiting, pending, .. } = &mut g;
-        unsafe { oracle_philox_new(key, stream, counter, waiting, pending, seed, id) };
+        let mut ours = Fields { key: [7; 2], stream: 7, counter: 7, waiting: true, pending: [7; 8], first: 7 };
+        called!(oracle_philox_new, &mut ours, seed, id);
+        let g = Philox { ours, rust: Numbered::new(seed, id) };
         count.others += 1;
         g.check(true, || format!("new({seed}, {id})"), count);
         g
     }
 
     fn seek(&mut self, block: u64, count: &mut Count) {
-        let Philox { key, stream, counter, waiting, pending, rust } = self;
-        unsafe { oracle_philox_seek(key, stream, counter, waiting, pending, block) };
-        rust.seek(block);
+        called!(oracle_philox_seek, &mut self.ours, block);
+        self.rust.seek(block);
         count.others += 1;
         self.check(true, || format!("seek({block})"), count);
     }
 
     fn blocks(&mut self, count: &mut Count) {
-        let Philox { key, stream, counter, waiting, pending, rust } = self;
         let mut words = [[7; 8]; 4];
-        unsafe { oracle_philox_blocks(key, stream, counter, waiting, pending, &mut words) };
-        let right = words == rust.blocks();
+        called!(oracle_philox_blocks, &mut self.ours, &mut words);
+        let right = words == self.rust.blocks();
         count.others += 1;
         self.check(right, || "blocks".to_string(), count);
     }
 }
 
 impl Engine for Philox {
-    type Rust = Philox4x32X8;
+    type Rust = Numbered;
+    type Label = (u64, bool);
     const NAME: &'static str = "Philox";
 
-    fn rust(&mut self) -> &mut Philox4x32X8 {
+    fn rust(&mut self) -> &mut Numbered {
         &mut self.rust
     }
-    /// The Rust shows all its fields as text alone. Words that don't wait are zeros here and none there.
+    /// The Rust shows all its fields as text alone. Words that don't wait are zeros here and none there, and then the number is 0.
     fn same(&self) -> bool {
-        let Philox { key, stream, counter, waiting, pending, rust } = self;
+        let Fields { key, stream, counter, waiting, pending, first } = &self.ours;
         let words = waiting.then_some(pending);
         let ours = format!("Philox4x32X8 {{ key: {key:?}, stream: {stream}, counter: {counter}, pending: {words:?} }}");
-        (*waiting || *pending == [0; 8]) && ours == format!("{rust:?}")
+        (*waiting || *pending == [0; 8]) && ours == self.rust.text() && *first == self.rust.number()
     }
     fn tells(&self) -> bool {
-        let Philox { key, stream, counter, waiting, pending, rust } = self;
-        unsafe { oracle_philox_draws_left(key, stream, counter, waiting, pending) == draws_left(rust) }
+        called!(oracle_philox_draws_left, &self.ours) == self.rust.draws_left()
+    }
+    fn next_label(&self) -> (u64, bool) {
+        self.rust.label()
+    }
+    fn no_label() -> (u64, bool) {
+        (0, false)
     }
 
-    fn fill(&mut self, kind: u64, n: usize) -> (Vec<u8>, u64) {
-        let Philox { key, stream, counter, waiting, pending, .. } = self;
+    fn fill(&mut self, kind: u64, n: usize) -> (Vec<u8>, (u64, (u64, bool))) {
+        let ours = &mut self.ours;
         match kind {
-            1 => ours!(oracle_philox_fill_u64, n, key, stream, counter, waiting, pending),
-            2 => ours!(oracle_philox_fill_u32, n, key, stream, counter, waiting, pending),
-            3 => ours!(oracle_philox_fill_f32, n, key, stream, counter, waiting, pending),
-            4 => ours!(oracle_philox_fill_f64, n, key, stream, counter, waiting, pending),
-            5 => ours!(oracle_philox_fill_normal_f32, n, key, stream, counter, waiting, pending),
-            _ => ours!(oracle_philox_fill_normal_f64, n, key, stream, counter, waiting, pending),
+            1 => labelled!(oracle_philox_fill_u64, n, ours),
+            2 => labelled!(oracle_philox_fill_u32, n, ours),
+            3 => labelled!(oracle_philox_fill_f32, n, ours),
+            4 => labelled!(oracle_philox_fill_f64, n, ours),
+            5 => labelled!(oracle_philox_fill_normal_f32, n, ours),
+            _ => labelled!(oracle_philox_fill_normal_f64, n, ours),
         }
     }
-    fn fill_bytes(&mut self, kind: u64, n: usize) -> (Vec<u8>, (u64, u64)) {
-        let Philox { key, stream, counter, waiting, pending, .. } = self;
-        let mut draws = u64::MAX; // so that a number left unwritten shows
+    fn fill_bytes(&mut self, kind: u64, n: usize) -> (Vec<u8>, (u64, u64, (u64, bool))) {
+        let (mut draws, (mut from, mut upper)) = (u64::MAX, UNWRITTEN); // so that a number left unwritten shows
         lent(n, |out| {
             let (at, n) = (out.as_mut_ptr(), out.len());
-            let refusal = unsafe { oracle_philox_fill_bytes(key, stream, counter, waiting, pending, kind, at, n, &mut draws) };
-            (refusal, draws)
+            let refusal = called!(oracle_philox_fill_bytes, &mut self.ours, &mut from, &mut upper, kind, at, n, &mut draws);
+            (refusal, draws, (from, upper))
         })
     }
-    fn draw(&mut self) -> [u64; 8] {
-        let Philox { key, stream, counter, waiting, pending, .. } = self;
-        let mut words = [7; 8];
-        unsafe { oracle_philox_next_u64x8(key, stream, counter, waiting, pending, &mut words) };
-        words
+    fn draw(&mut self) -> ([u64; 8], (u64, bool)) {
+        let (mut words, (mut from, mut upper)) = ([7; 8], UNWRITTEN);
+        called!(oracle_philox_next_u64x8, &mut self.ours, &mut from, &mut upper, &mut words);
+        (words, (from, upper))
     }
 
-    /// Words wait in the second and the fourth. The counter passes 2^64 in the third, and 2^32 in the fourth.
+    /// Words wait in the second and the fourth, and in the fourth `blocks` moved the counter since. The counter passes 2^64 in the third,
+    /// and 2^32 in the fourth.
     fn start(which: u64, count: &mut Count) -> Self {
         let (seed, id, block) = match which {
             0 => (0, 0, 0),
@@ -361,6 +406,9 @@ impl Engine for Philox {
         g.seek(block, count);
         if which % 2 == 1 {
             g.single(count);
+        }
+        if which == 3 {
+            g.blocks(count);
         }
         g
     }

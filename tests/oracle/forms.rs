@@ -87,9 +87,65 @@ fn philox_numbers(rust: &Philox4x32X8) -> Vec<u64> {
     numbers
 }
 
-impl Saved for Philox4x32X8 {
+/// The Rust's Philox generator, and beside it what it doesn't keep: the first block of the group whose upper words wait. A draw of lower
+/// words gives it, the draw of the upper words and a seek take it away, and `blocks` leaves it, though it moves the counter. The counter is
+/// kept here as well, because the Rust shows it in text alone.
+#[derive(Clone)]
+pub struct Numbered {
+    rust: Philox4x32X8,
+    counter: u64,
+    group: Option<u64>,
+}
+
+impl Numbered {
+    pub fn new(seed: u64, stream: u64) -> Self {
+        Numbered { rust: Philox4x32X8::new(seed, stream), counter: 0, group: None }
+    }
+    pub fn seek(&mut self, block: u64) {
+        self.rust.seek(block);
+        self.counter = block;
+        self.group = None;
+    }
+    pub fn blocks(&mut self) -> [[u32; 8]; 4] {
+        self.counter = self.counter.wrapping_add(8);
+        self.rust.blocks()
+    }
+    /// The label of the next draw: the first block of its group, and whether it is the upper half.
+    pub fn label(&self) -> (u64, bool) {
+        self.group.map_or((self.counter, false), |first| (first, true))
+    }
+    /// The first block of the waiting group, 0 if no words wait.
+    pub fn number(&self) -> u64 {
+        self.group.unwrap_or(0)
+    }
+    /// The Rust's fields, as text.
+    pub fn text(&self) -> String {
+        format!("{:?}", self.rust)
+    }
+    /// 2 x floor((2^64 - counter) / 8), and 1 more when words wait. The Rust has no such call.
+    pub fn draws_left(&self) -> u64 {
+        let numbers = philox_numbers(&self.rust);
+        let groups = ((1 << 64) - u128::from(numbers[3])) / 8;
+        2 * groups as u64 + u64::from(numbers.len() > 4)
+    }
+}
+
+/// The fills are the Rust's own, of the Rust's draws.
+impl Rng8 for Numbered {
+    #[inline(always)]
+    fn next_u64x8(&mut self) -> [u64; 8] {
+        if self.group.take().is_none() {
+            self.group = Some(self.counter);
+            self.counter = self.counter.wrapping_add(8);
+        }
+        self.rust.next_u64x8()
+    }
+}
+
+impl Saved for Numbered {
     fn form(&self) -> Vec<u8> {
-        let numbers = philox_numbers(self);
+        let numbers = philox_numbers(&self.rust);
+        assert_eq!((numbers[3], numbers.len() > 4), (self.counter, self.group.is_some()), "{}", self.text());
         let mut form = Vec::new();
         for half in &numbers[..2] {
             form.extend((*half as u32).to_le_bytes()); // the key
@@ -100,13 +156,37 @@ impl Saved for Philox4x32X8 {
         for i in 4..12 {
             form.extend(numbers.get(i).unwrap_or(&0).to_le_bytes()); // the waiting words
         }
+        form.extend(self.number().to_le_bytes());
         form
     }
 }
 
-/// 2 x floor((2^64 - counter) / 8), and 1 more when words wait. The Rust has no such call.
-pub fn draws_left(rust: &Philox4x32X8) -> u64 {
-    let numbers = philox_numbers(rust);
-    let groups = ((1 << 64) - u128::from(numbers[3])) / 8;
-    2 * groups as u64 + u64::from(numbers.len() > 4)
+/// The word of a form that begins at a byte.
+pub fn word_at(form: &[u8], at: usize) -> u64 {
+    u64::from_le_bytes(form[at..at + 8].try_into().expect("eight bytes"))
+}
+
+/// The refusal of a Philox form, 0 if it has none. The upper words of the numbered group are the Rust's second draw after a seek there.
+pub fn philox_refusal(form: &[u8]) -> i64 {
+    if form.len() != 104 {
+        return 1;
+    }
+    let mark = word_at(form, 24);
+    if mark > 1 || mark == 0 && form[32..].iter().any(|byte| *byte != 0) {
+        return 2;
+    }
+    let mut rust = Philox4x32X8::new(word_at(form, 0), word_at(form, 8));
+    rust.seek(word_at(form, 96));
+    rust.next_u64x8();
+    let upper = rust.next_u64x8();
+    if mark == 1 && (0..8).any(|i| word_at(form, 32 + 8 * i) != upper[i]) {
+        return 14;
+    }
+    0
+}
+
+/// A form of 96 bytes with its number: counter - 8 modulo 2^64 if words wait, else 0.
+pub fn numbered(old: &[u8]) -> Vec<u8> {
+    let number = if word_at(old, 24) == 1 { word_at(old, 16).wrapping_sub(8) } else { 0 };
+    [old, &number.to_le_bytes()].concat()
 }

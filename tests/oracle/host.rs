@@ -4,8 +4,8 @@
 mod common;
 mod forms;
 use common::{Count, Random};
-use forms::{draw, draws_left, filled, kind, Saved};
-use tpt_simd_rng::{Philox4x32X8, Xoshiro256pp, Xoshiro256ppX8};
+use forms::{draw, filled, kind, numbered, philox_refusal, Numbered, Saved};
+use tpt_simd_rng::{Xoshiro256pp, Xoshiro256ppX8};
 
 type Fill = unsafe extern "C" fn(*mut u8, usize, u64, *mut u8, usize) -> i64;
 type Skip = unsafe extern "C" fn(*mut u8, usize, u64) -> i64;
@@ -19,6 +19,9 @@ extern "C" {
     fn gp_philox_seek(form: *mut u8, form_len: usize, block: u64) -> i64;
     fn gp_philox_skip(form: *mut u8, form_len: usize, draws: u64) -> i64;
     fn gp_philox_draws_left(form: *const u8, form_len: usize) -> i64;
+    fn gp_philox_label(form: *const u8, form_len: usize, first: *mut u64) -> i64;
+    fn gp_philox_from_96(old: *const u8, old_len: usize, form: *mut u8, form_len: usize) -> i64;
+    fn gp_philox_to_96(form: *const u8, form_len: usize, old: *mut u8, old_len: usize) -> i64;
 }
 
 /// What a call is lent, between two ends of noise.
@@ -80,9 +83,8 @@ impl<R: Engine> Pair<'_, R> {
         let noise = random.bytes(length);
         let (mut form, mut out) = (Lent::new(self.form), Lent::new(&noise));
         let answer = unsafe { R::FILL(form.at(), form.len(), number, out.at(), out.len()) };
-        if self.refusal == 0 {
-            self.refusal = kind(number).map_or(4, |kind| if length % kind.width == 0 { 0 } else { 5 });
-        }
+        let own = kind(number).map_or(4, |kind| if length % kind.width == 0 { 0 } else { 5 });
+        self.refusal = lowest(self.refusal, own);
         let (draws, after) = if self.refusal == 0 {
             let n = length / kind(number).expect("a kind").width;
             count.fills += 1;
@@ -104,6 +106,15 @@ impl<R: Engine> Pair<'_, R> {
         }
         count.others += 1;
         self.check(|| format!("skip of {draws} draws"), (answer, form), 0, count);
+    }
+}
+
+/// The lower of two refusals that both apply, 0 for none.
+fn lowest(a: i64, b: i64) -> i64 {
+    if a == 0 || b == 0 {
+        a + b
+    } else {
+        a.min(b)
     }
 }
 
@@ -178,14 +189,50 @@ impl Engine for Xoshiro256ppX8 {
 
 // ---- Philox
 
-impl Engine for Philox4x32X8 {
+/// The call that tells of the next draw, and both moves.
+impl Pair<'_, Numbered> {
+    fn label(mut self, count: &mut Count) {
+        let (mut form, mut first) = (Lent::new(self.form), UNTOUCHED);
+        let answer = unsafe { gp_philox_label(form.at(), form.len(), &mut first) };
+        let (block, upper) = self.rust.label();
+        count.same("Philox label, the block", first, if self.refusal == 0 { block } else { UNTOUCHED });
+        self.check(|| "label".to_string(), (answer, form), i64::from(upper), count);
+    }
+
+    /// To a buffer of another length now and then, which is refused.
+    fn to_96(mut self, random: &mut Random, count: &mut Count) {
+        let length = random.of(&[96, 96, 96, 0, 95, 97, 104]) as usize;
+        let noise = random.bytes(length);
+        let (mut form, mut old) = (Lent::new(self.form), Lent::new(&noise));
+        let answer = unsafe { gp_philox_to_96(form.at(), form.len(), old.at(), old.len()) };
+        self.refusal = lowest(self.refusal, i64::from(length != 96));
+        let after = if self.refusal == 0 { self.rust.form()[..96].to_vec() } else { noise };
+        self.check(|| format!("to_96 of {length} bytes"), (answer, form), 0, count);
+        old.check(|| format!("Philox to_96, the {length} bytes"), &after, count);
+    }
+
+    /// The bytes of this form without its number, or as many of them as there are, moved to a buffer of 104 bytes.
+    fn from_96(self, random: &mut Random, count: &mut Count) {
+        let (content, noise) = (self.form[..self.form.len().min(96)].to_vec(), random.bytes(104));
+        let (mut old, mut form) = (Lent::new(&content), Lent::new(&noise));
+        let answer = unsafe { gp_philox_from_96(old.at(), old.len(), form.at(), form.len()) };
+        let moved = if content.len() == 96 { numbered(&content) } else { Vec::new() };
+        let refusal = philox_refusal(&moved);
+        count.refused += u64::from(refusal != 0);
+        count.same("Philox from_96, the answer", answer, -refusal);
+        old.check(|| "Philox from_96, the old form".to_string(), &content, count);
+        form.check(|| "Philox from_96, the form".to_string(), if refusal == 0 { &moved } else { &noise }, count);
+    }
+}
+
+impl Engine for Numbered {
     const NAME: &'static str = "Philox";
     const FILL: Fill = gp_philox_fill;
     const SKIP: Skip = gp_philox_skip;
 
     fn start(random: &mut Random, count: &mut Count) -> (Vec<u8>, Self) {
         let (seed, stream) = (random.next(), random.next() >> random.of(&[0, 40, 63]));
-        let (mut form, mut rust) = (random.bytes(96), Philox4x32X8::new(seed, stream));
+        let (mut form, mut rust) = (random.bytes(104), Numbered::new(seed, stream));
         let mut lent = Lent::new(&form);
         let answer = unsafe { gp_philox_new(seed, stream, lent.at(), lent.len()) };
         count.others += 1;
@@ -195,11 +242,24 @@ impl Engine for Philox4x32X8 {
 
     fn own_call(mut pair: Pair<Self>, random: &mut Random, count: &mut Count) {
         count.others += 1;
+        let mut choice = random.below(6);
+        if choice == 4 && pair.refusal == 0 {
+            // not a call of the library: the form of a generator whose counter was moved while words may wait
+            pair.rust.blocks();
+            *pair.form = pair.rust.form();
+            choice = 1 + random.below(3);
+        }
         let mut form = Lent::new(pair.form);
-        if random.below(2) == 0 {
-            let answer = unsafe { gp_philox_draws_left(form.at(), form.len()) };
-            let left = draws_left(pair.rust) as i64;
-            return pair.check(|| "draws_left".to_string(), (answer, form), left, count);
+        match choice {
+            0 => {
+                let answer = unsafe { gp_philox_draws_left(form.at(), form.len()) };
+                let left = pair.rust.draws_left() as i64;
+                return pair.check(|| "draws_left".to_string(), (answer, form), left, count);
+            }
+            1 => return pair.label(count),
+            2 => return pair.to_96(random, count),
+            3 => return pair.from_96(random, count),
+            _ => (),
         }
         let (small, high) = (random.below(300), random.next() << 32);
         let block = random.of(&[small, u64::MAX - small, high.wrapping_sub(small)]);
@@ -210,12 +270,14 @@ impl Engine for Philox4x32X8 {
         pair.check(|| format!("seek({block})"), (answer, form), 0, count);
     }
 
-    /// A mark that is neither 0 nor 1, or mark 0 with a byte among the waiting words.
+    /// A mark that is neither 0 nor 1, or mark 0 with a byte among the waiting words or the number's; or mark 1 with such a byte, so that
+    /// the words are not those of the numbered group.
     fn damage(form: &mut [u8], random: &mut Random) -> i64 {
-        let mark = random.of(&[0, 2, 3, 255, 256, 257, 1 << 32, (1 << 32) + 1, 1 << 63, u64::MAX]);
+        let mark = random.of(&[0, 0, 0, 0, 1, 1, 1, 1, 1, 1, 1, 1, 2, 3, 255, 256, 257, 1 << 32, (1 << 32) + 1, 1 << 63, u64::MAX]);
         form[24..32].copy_from_slice(&mark.to_le_bytes());
-        form[32 + random.below(64) as usize] = 1 << random.below(8);
-        2
+        let at = if random.below(2) == 0 { 32 + random.below(64) } else { 96 + random.below(8) };
+        form[at as usize] ^= 1 << random.below(8);
+        philox_refusal(form)
     }
 }
 
@@ -235,12 +297,13 @@ fn random_length(random: &mut Random) -> usize {
 /// Any call on a form that is refused: damaged, of another length, or both.
 fn refused<R: Engine>(form: &[u8], rust: &mut R, random: &mut Random, count: &mut Count) {
     let mut form = form.to_vec();
-    let right = form.len();
+    let right = form.len() as u64;
     let mut refusal = R::damage(&mut form, random);
     if random.below(2) == 0 {
         refusal = 1;
-        let other = random.of(&[0, 8, right as u64 - 1, right as u64 + 1, 2 * right as u64, 352 - right as u64]) as usize;
-        form.resize(other, 7);
+        // the old length of Philox and the other engine's among them
+        let other = random.of(&[0, 8, 96, right - 1, right + 1, 2 * right, 360 - right]);
+        form.resize(other as usize, 7);
     }
     let pair = Pair { form: &mut form, rust, refusal };
     match random.below(4) {
@@ -327,7 +390,7 @@ fn main() {
     let lists = number(1).expect("how many lists of mixed calls an engine");
     let far = number(2).expect("how many draws to walk");
     let random = &mut Random(20_260_103);
-    let mut differences = run::<Xoshiro256ppX8>(lists, random) + run::<Philox4x32X8>(lists, random);
-    differences += walk::<Xoshiro256ppX8>(far, random) + walk::<Philox4x32X8>(far, random) + blocks(random);
+    let mut differences = run::<Xoshiro256ppX8>(lists, random) + run::<Numbered>(lists, random);
+    differences += walk::<Xoshiro256ppX8>(far, random) + walk::<Numbered>(far, random) + blocks(random);
     std::process::exit(i32::from(differences != 0));
 }

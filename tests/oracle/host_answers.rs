@@ -1,8 +1,8 @@
 //! Writes the Rust's answers for tests/host. With `calls`: lists of calls on the C library, tests/host/expected.txt. With `paths`: what
 //! examples/paths prints, tests/host/paths.txt. Buffers are given by their digests, 64-bit FNV-1a.
 mod forms;
-use forms::{draw, draws_left, filled, Saved};
-use tpt_simd_rng::{Philox4x32X8, Rng8, Xoshiro256ppX8};
+use forms::{draw, filled, Numbered, Saved};
+use tpt_simd_rng::{Rng8, Xoshiro256ppX8};
 
 const EMPTY: u64 = 0xcbf2_9ce4_8422_2325;
 fn digest(start: u64, bytes: &[u8]) -> u64 {
@@ -35,13 +35,13 @@ impl Xoshiro {
     }
 }
 
-struct Philox(Philox4x32X8);
+struct Philox(Numbered);
 impl Philox {
     fn line(&self, call: &str, a: u64, b: u64, answer: i64, out: &[u8]) {
-        line(call, a, b, answer, draws_left(&self.0), out, &self.0.form());
+        line(call, a, b, answer, self.0.draws_left(), out, &self.0.form());
     }
     fn start(seed: u64, stream: u64) -> Self {
-        let rust = Philox(Philox4x32X8::new(seed, stream));
+        let rust = Philox(Numbered::new(seed, stream));
         rust.line("philox", seed, stream, 0, &[]);
         rust
     }

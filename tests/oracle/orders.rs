@@ -2,9 +2,9 @@
 //! to standard output, and FIRST and END to standard error. END is counted, not computed: a copy of the generator is drawn from until it is
 //! the same again. WORDS are the lanes of xoshiro where the order starts, for one so far off that the Rust would not get there.
 mod forms;
-use forms::{draw, filled, Saved};
+use forms::{draw, filled, Numbered, Saved};
 use std::io::Write;
-use tpt_simd_rng::{Philox4x32X8, Xoshiro256pp, Xoshiro256ppX8};
+use tpt_simd_rng::{Xoshiro256pp, Xoshiro256ppX8};
 
 const NAMES: [&str; 6] = ["u64", "u32", "f32", "f64", "normal_f32", "normal_f64"];
 
@@ -43,7 +43,7 @@ fn main() {
         };
         deliver(rng, first, kind, count);
     } else {
-        let mut rng = Philox4x32X8::new(seed, block);
+        let mut rng = Numbered::new(seed, block);
         rng.seek(first / 2 * 8);
         draw(&mut rng, first % 2);
         deliver(rng, first, kind, count);

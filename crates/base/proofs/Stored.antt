@@ -78,6 +78,12 @@ module _ {A : Type 0} where
       let w : List A = a ∷ v in
       ext-getD a (sets l 0 w) w (length-sets l 0 w ∙ h) (λ k b. rw zero-add at (sets-in w l 0 k a (omega (arith, length-sets l 0 w)) (omega (arith, length-sets l 0 w))))
 
+  -- of more elements than there are places, the first are stored
+  pub stored-over : (l v : List A) → length l ≤ length v → stored l 0 v ≡ take (length l) v
+  unfolding stored
+  stored-over l v h = sym (sets-short v (length l) l 0 (omega arith)) ∙ stored-whole l (take (length l) v)
+      (sym (length-take-le (length l) v h))
+
   -- elements stored from the first place on stand before what was behind them
   pub stored-first : (l v : List A) → length v ≤ length l → stored l 0 v ≡ v ++ drop (length v) l
   unfolding stored

@@ -1,13 +1,15 @@
 // A model on Philox4x32-10.
+use philox::x8::Label;
 use philox::x8::Philox4x32X8;
 use philox_fills::bytes;
 use philox_fills::typed;
 ghost use Rattle.clients.specs.philox4x32.Model.{Simulated};
 
-// What the model hands back besides its slices: the words of its last draw; its draws since the seek; the number of the byte fill's
-// refusal, or 0; and the generator after it.
+// What the model hands back besides its slices: the words of its last draw, and their label; its draws since the seek; the number of the
+// byte fill's refusal, or 0; and the generator after it.
 pub struct Outcome {
     pub words: [u64; 8],
+    pub label: Label,
     pub draws: u64,
     pub refusal: u64,
     pub rng: Philox4x32X8,
@@ -32,9 +34,11 @@ pub fn simulate(
     let g3 = written.rng;
     let last = g3.next_u64x8();
     let words = last.words;
+    let label = last.label;
     let rng = last.rng;
     Outcome {
         words,
+        label,
         draws: written.draws + 1,
         refusal: written.refusal,
         rng,

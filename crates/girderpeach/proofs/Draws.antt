@@ -1,4 +1,5 @@
--- The draws of a slice of bytes, and the draws left, fit a signed word, and the refusals are at most 5. Assumes nothing.
+-- The draws of a slice of bytes, and the draws left, fit a signed word, and no number that refuses a kind or a length is above 14. Assumes
+-- nothing.
 use mathlib.Core.Bool.{Bool, true, false, cond, _&&_}
 use mathlib.Core.Path.{_≡_}
 use Prim.Native.Nat.{ℕ, zero, suc, _-_, _/_, _%_, _^_, _<_, _≤_}
@@ -28,11 +29,11 @@ pub few-draws : (k n : ℕ) → n < 2 ^ 64 → bytesDraws k n < 2 ^ 63
 unfolding bytesDraws kindAt
 few-draws k n h = few-at (k - 1) n h
 
-pub few-kind-refusals : (k n : ℕ) → refusalOf k n ≤ 5
+pub few-kind-refusals : (k n : ℕ) {r : ℕ} → r ≡ refusalOf k n → r ≤ 14
 unfolding refusalOf
-few-kind-refusals k n = go (leb 1 k && leb k (length kinds)) (eqb (n % kindAt k .kind .width) 0)
+few-kind-refusals k n e = rw e (go (leb 1 k && leb k (length kinds)) (eqb (n % kindAt k .kind .width) 0))
   where
-    go : (a b : Bool) → cond a (cond b 0 5) 4 ≤ 5
+    go : (a b : Bool) → cond a (cond b 0 5) 4 ≤ 14
     go true true = omega arith
     go true false = omega arith
     go false b = omega arith

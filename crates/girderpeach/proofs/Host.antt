@@ -13,16 +13,16 @@ use Rattle.base.proofs.Refused.{unless-none, unless-some}
 use Rattle.base.specs.Refused.{unless}
 use Rattle.base.specs.Iterate.{iterate}
 use Rattle.fills.specs.FillBytes.{refusalOf, bytesWritten, bytesDraws, FilledBytes}
-use Rattle.saved.specs.fields.Saved.{Saved, lengthRefusal}
+use Rattle.saved.specs.fields.Saved.{lengthRefusal, Written, Saved}
 use Rattle.girderpeach.specs.Host.{answerOf, firstOf, Called, Forms, fillRefusal, HostFill, HostSkip}
 use Rattle.girderpeach.proofs.Draws.{few-draws, few-kind-refusals}
 
 -- ---- by the refusal
-first-none : (a b : ℕ) → a ≡ 0 → firstOf a b ≡ b
+pub first-none : (a b : ℕ) → a ≡ 0 → firstOf a b ≡ b
 first-none zero b e = refl
 first-none (suc a) b e = absurd (omega arith)
 
-first-some : (a b : ℕ) → (a ≡ 0 → ⊥) → firstOf a b ≡ a
+pub first-some : (a b : ℕ) → (a ≡ 0 → ⊥) → firstOf a b ≡ a
 first-some zero b h = absurd (h refl)
 first-some (suc a) b h = refl
 
@@ -52,29 +52,33 @@ module _ {refusal value : ℕ} {new form : List ℕ} {answer : ℤ} where
   pub called-done : {r : ℕ} → r ≡ refusal → r ≡ 0 → {v : ℕ} → answer ≡ answerOf 0 v → v ≡ value → {form′ : List ℕ} → form′ ≡ new → Called refusal value new form form′ answer
   called-done e z q v w = record { answers = answer-done value e z q v; saves = w ∙ sym (unless-none refusal (sym e ∙ z) new form) }
 
--- a form that has its length is saved
-pub saved-form : {n : ℕ} {new form form′ : List ℕ} {r : ℕ} → Saved n new form form′ r → lengthRefusal n form ≡ 0 → form′ ≡ new
-saved-form {n} {new} {form} {form′} {r} S e = S .writes ∙ unless-none r (S .refuses ∙ e) new form
+-- a form that isn't refused is written
+pub saved-form : {refused : ℕ} {new form form′ : List ℕ} {r : ℕ} → Written refused new form form′ r → refused ≡ 0 → form′ ≡ new
+saved-form {refused} {new} {form} {form′} {r} S e = S .writes ∙ unless-none r (S .refuses ∙ e) new form
 
--- a call that only saves
-module _ {n : ℕ} {new form form′ : List ℕ} {r : ℕ} (S : Saved n new form form′ r) where
-  pub few-length : r ≤ 5
-  few-length = go (eqb (length form) n) (S .refuses)
-    where
-      go : (b : Bool) → r ≡ cond b 0 1 → r ≤ 5
-      go true e = omega arith
-      go false e = omega arith
+-- a call that only writes a form
+pub few-length : (n : ℕ) (s : List ℕ) {r : ℕ} → r ≡ lengthRefusal n s → r ≤ 14
+few-length n s {r} e = go (eqb (length s) n) e
+  where
+    go : (b : Bool) → r ≡ cond b 0 1 → r ≤ 14
+    go true e = omega arith
+    go false e = omega arith
 
-  pub called-saved : {new′ : List ℕ} {answer : ℤ} → answer ≡ answerOf r 0 → new ≡ new′ → Called (lengthRefusal n form) 0 new′ form form′ answer
-  called-saved q e =
-      record { answers = q ∙ ap (λ (x : ℕ). answerOf x 0) (S .refuses); saves = S .writes ∙ ap₂ (λ (x : ℕ) (l : List ℕ). unless x l form) (S .refuses) e }
+pub called-saved : {refused : ℕ} {new form form′ : List ℕ} {r : ℕ} → Written refused new form form′ r
+    → {new′ : List ℕ} {answer : ℤ} → answer ≡ answerOf r 0 → new ≡ new′ → Called refused 0 new′ form form′ answer
+called-saved {form = form} S q e =
+    record {
+      answers = q ∙ ap (λ (x : ℕ). answerOf x 0) (S .refuses);
+      saves = S .writes
+          ∙ ap₂ (λ (x : ℕ) (l : List ℕ). unless x l form) (S .refuses) e;
+    }
 
--- ---- a fill. An engine's forms are refused with 1 to 3, and an accepted form has its length
+-- ---- a fill. An engine's forms are refused with 1 to 14, and an accepted form has its length
 pub record Sound {G : Type 0} (H : Forms G) (n : ℕ) : Type 0 where
-  pub few : (s : List ℕ) → H .refusal s ≤ 3
+  pub few : (s : List ℕ) → H .refusal s ≤ 14
   pub sized : (s : List ℕ) → H .refusal s ≡ 0 → lengthRefusal n s ≡ 0
 
-pub few-form : {G : Type 0} {H : Forms G} {n : ℕ} → Sound H n → (s : List ℕ) {r : ℕ} → r ≡ H .refusal s → r ≤ 5
+pub few-form : {G : Type 0} {H : Forms G} {n : ℕ} → Sound H n → (s : List ℕ) {r : ℕ} → r ≡ H .refusal s → r ≤ 14
 few-form S s e = omega (arith, S .few s)
 
 -- ---- a skip of n draws, done
@@ -87,8 +91,8 @@ skip-done {G} H sound n {form} e z eg es S =
 
 -- what a fill of bytes answers fits
 module _ {G : Type 0} {E : Engine G} {k : ℕ} {g g′ : G} {out out′ : List ℕ} {r draws : ℕ} (F : FilledBytes E k g out out′ r draws g′) where
-  pub few-kind : r ≤ 5
-  few-kind = let f = few-kind-refusals k (length out) in omega (arith, F .refuses)
+  pub few-kind : r ≤ 14
+  few-kind = few-kind-refusals k (length out) (F .refuses)
 
   pub few-made : length out < 2 ^ 64 → draws < 2 ^ 63
   few-made h = go r (F .count)
@@ -98,33 +102,31 @@ module _ {G : Type 0} {E : Engine G} {k : ℕ} {g g′ : G} {out out′ : List �
       go (suc r) e = omega arith
 
 module _ {G : Type 0} (H : Forms G) (form : List ℕ) (k : ℕ) (out : List ℕ) where
-  -- the form is refused
-  pub fill-no-form : {r : ℕ} {answer : ℤ} → r ≡ H .refusal form → (r ≡ 0 → ⊥) → answer ≡ answerOf r 0
+  -- a fill that is refused before it begins
+  pub fill-refused : {r : ℕ} {answer : ℤ} → r ≡ fillRefusal H form k out → (r ≡ 0 → ⊥) → answer ≡ answerOf r 0
       → HostFill H form k out answer form out
-  fill-no-form {r} e h q =
-      let f : r ≡ fillRefusal H form k out = e ∙ sym (first-some (H .refusal form) (refusalOf k (length out)) (λ z. h (e ∙ z))) in
-      record { called = called-refused f h q; writes = sym (unless-some (fillRefusal H form k out) (λ z. h (f ∙ z)) _ out) }
+  fill-refused e h q =
+      record { called = called-refused e h q; writes = sym (unless-some (fillRefusal H form k out) (λ z. h (e ∙ z)) _ out) }
 
-  module _ {g g′ : G} {out′ : List ℕ} {r r₀ draws : ℕ} (e₀ : r₀ ≡ H .refusal form) (z₀ : r₀ ≡ 0) (F : FilledBytes (H .engine) k g out out′ r draws g′) where
-    refusal-is : r ≡ firstOf (H .refusal form) (refusalOf k (length out))
-    refusal-is = F .refuses ∙ sym (first-none (H .refusal form) (refusalOf k (length out)) (sym e₀ ∙ z₀))
-
-    -- the kind or the length of the output is refused
+  module _ {g g′ : G} {out′ : List ℕ} {r draws : ℕ} (F : FilledBytes (H .engine) k g out out′ r draws g′)
+      (e : r ≡ fillRefusal H form k out) where
+    -- one that the fill of bytes refuses
     pub fill-no-kind : {answer : ℤ} → (r ≡ 0 → ⊥) → answer ≡ answerOf r 0 → HostFill H form k out answer form out′
     fill-no-kind h q =
         record {
-          called = called-refused refusal-is h q;
-          writes = F .writes ∙ unless-some r h _ out ∙ sym (unless-some (fillRefusal H form k out) (λ e. h (refusal-is ∙ e)) _ out);
+          called = called-refused e h q;
+          writes = F .writes ∙ unless-some r h _ out ∙ sym (unless-some (fillRefusal H form k out) (λ z. h (e ∙ z)) _ out);
         }
 
-    -- nothing is
-    pub fill-done : {n r′ : ℕ} {form′ : List ℕ} {answer : ℤ} → Sound H n → g ≡ H .read form → r ≡ 0 → Saved n (H .form g′) form form′ r′
-        → answer ≡ answerOf 0 draws → HostFill H form k out answer form′ out′
-    fill-done s eg er S q =
-        let f : fillRefusal H form k out ≡ 0 = sym refusal-is ∙ er in
+    -- one that is done
+    pub fill-done : {refused r′ : ℕ} {form′ : List ℕ} {answer : ℤ} → g ≡ H .read form → r ≡ 0 → Written refused (H .form g′) form form′ r′
+        → refused ≡ 0 → answer ≡ answerOf 0 draws → HostFill H form k out answer form′ out′
+    fill-done eg er S z q =
+        let f : fillRefusal H form k out ≡ 0 = sym e ∙ er in
         let d : draws ≡ bytesDraws k (length out) = F .count ∙ unless-none r er (bytesDraws k (length out)) 0 in
         record {
-          called = called-done refl f q d (saved-form S (s .sized form (sym e₀ ∙ z₀)) ∙ ap (H .form) (F .state ∙ ap₂ (λ (m : ℕ) (x : G). iterate (H .engine .next) m x) d eg));
+          called = called-done refl f q d (saved-form S z ∙ ap (H .form)
+              (F .state ∙ ap₂ (λ (m : ℕ) (x : G). iterate (H .engine .next) m x) d eg));
           writes =
               F .writes ∙ unless-none r er _ out ∙ ap (λ (x : G). bytesWritten k (wordsFrom (H .engine) x) (length out)) eg
               ∙ sym (unless-none (fillRefusal H form k out) f _ out);

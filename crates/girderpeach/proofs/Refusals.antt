@@ -115,3 +115,16 @@ pub in-turn : (a b c e : ℕ) {A B C E : Type 0} (d₁ : Dec A) (d₂ : Dec B) (
 in-turn a b c e (yes p) d₂ d₃ d₄ = refl
 in-turn a b c e (no p) (yes q) d₃ d₄ = refl
 in-turn a b c e (no p) (no q) d₃ d₄ = refl
+
+-- the numbers of a Philox form in a fill: 1 and 2, then the kind's and the length's, then 14
+pub fourteen-last : {A B C D E : Type 0} (d : Dec A) (e : Dec B) (h : Dec C) (i : Dec D) (g : Dec E)
+    → firstOf (lowest (refusal 1 A ∷ refusal 2 B ∷ []) (d, (e, tt)))
+    (firstOf (lowest (refusal 4 C ∷ refusal 5 D ∷ []) (h, (i, tt))) (lowest (refusal 1 A ∷ refusal 2 B ∷ refusal 14 E ∷ [])
+    (d, (e, (g, tt)))))
+    ≡ lowest (refusal 1 A ∷ refusal 2 B ∷ refusal 4 C ∷ refusal 5 D ∷ refusal 14 E ∷ []) (d, (e, (h, (i, (g, tt)))))
+fourteen-last (yes d) e h i g = refl
+fourteen-last (no d) (yes e) h i g = refl
+fourteen-last (no d) (no e) (yes h) i g = refl
+fourteen-last (no d) (no e) (no h) (yes i) g = refl
+fourteen-last (no d) (no e) (no h) (no i) (yes g) = refl
+fourteen-last (no d) (no e) (no h) (no i) (no g) = refl

@@ -11,7 +11,9 @@ use Rattle.fills.specs.FillBytes.{bytesDraws}
 use Rattle.fills.specs.Kinds.{kindAt}
 use Rattle.saved.specs.fields.Fields.{fields}
 use Rattle.saved.specs.philox4x32.Form as philox-form
-use Rattle.saved.specs.philox4x32.Form.{counterIn, markIn, waitingIn}
+use Rattle.saved.specs.philox4x32.Claims.{upperIn}
+use Rattle.saved.specs.philox4x32.Form.{counterIn, markIn, waitingIn, numberIn}
+use Rattle.saved.specs.philox4x32.Moves.{withNumber}
 use Rattle.saved.specs.xoshiro256pp.Form as xoshiro-form
 use Rattle.saved.specs.xoshiro256pp.Form.{laneIn}
 use Rattle.xoshiro.specs.scalar.Calls.{stateOf}
@@ -41,11 +43,21 @@ wrongLength n form = refusal 1 (length form ≡ n → ⊥)
 abbrev pub zeroLane : List ℕ → Refusal
 zeroLane form = refusal 3 ((i : ℕ) × (i < 8) × (allZero (stateOf (laneIn (fields xoshiro-form.layout form) i)) ≡ true))
 
--- 2: the mark of a form isn't 1, and if it is 0, some word that would wait isn't zero
+-- 2: the mark of a form isn't 1, and if it is 0, some word after it isn't zero: the eight that would wait, and their number
 abbrev pub wrongMark : List ℕ → Refusal
 wrongMark form =
     let f = fields philox-form.layout form in
-    refusal 2 ((markIn f ≡ 1 → ⊥) × (markIn f ≡ 0 → (i : ℕ) × (i < 8) × (getD (waitingIn f) i 0 ≡ 0 → ⊥)))
+    refusal 2 ((markIn f ≡ 1 → ⊥) × (markIn f ≡ 0 → (i : ℕ) × (i < 9) × (getD f (5 + i) 0 ≡ 0 → ⊥)))
+
+-- 14: words wait, and some isn't the upper word of the numbered group
+abbrev pub wrongGroup : List ℕ → Refusal
+wrongGroup form =
+    let f = fields philox-form.layout form in
+    refusal 14 ((markIn f ≡ 1) × ((i : ℕ) × (i < 8) × (getD (waitingIn f) i 0 ≡ getD (upperIn f) i 0 → ⊥)))
+
+-- 1, in a move: one of two forms has another length than its own
+abbrev pub wrongLengths : ℕ → List ℕ → ℕ → List ℕ → Refusal
+wrongLengths m s n t = refusal 1 ((length s ≡ m) × (length t ≡ n) → ⊥)
 
 -- 4: a kind is outside 1 to 6; 5: the output's length isn't a multiple of the kind's width
 abbrev pub noKind : ℕ → Refusal
@@ -61,7 +73,8 @@ leftIn form =
     let f = fields philox-form.layout form in
     2 * ((2 ^ 64 - counterIn f) / 8) + markIn f
 
--- ---- the claims, one for each engine. A fill answers its draws, the draws left are answered, and other calls answer 0.
+-- ---- the claims, one for each engine. A fill answers its draws, the draws left and the half of a label are answered, and other calls
+-- answer 0.
 pub record XoshiroRefusals : Type 0 where
   pub new : (seed block : ℕ) (form : List ℕ) (jumps : ℕ) (answer : ℤ) (form′ : List ℕ) (jumps′ : ℕ)
       → xoshiro.New seed block form jumps answer form′ jumps′ → Answers answer 0 (wrongLength 256 form ∷ [])
@@ -74,14 +87,47 @@ pub record XoshiroRefusals : Type 0 where
 
 pub record PhiloxRefusals : Type 0 where
   pub new : (seed stream : ℕ) (form : List ℕ) (answer : ℤ) (form′ : List ℕ) → philox.New seed stream form answer form′
-      → Answers answer 0 (wrongLength 96 form ∷ [])
+      → Answers answer 0 (wrongLength 104 form ∷ [])
   pub fill : (form : List ℕ) (k : ℕ) (out : List ℕ) (answer : ℤ) (form′ out′ : List ℕ) → philox.Filled form k out answer form′ out′
-      → Answers answer (bytesDraws k (length out)) (wrongLength 96 form ∷ wrongMark form ∷ noKind k ∷ noMultiple k out ∷ [])
+      → Answers answer (bytesDraws k (length out))
+      (wrongLength 104 form ∷ wrongMark form ∷ noKind k ∷ noMultiple k out ∷ wrongGroup form ∷ [])
   pub seek : (n : ℕ) (form : List ℕ) (answer : ℤ) (form′ : List ℕ) → philox.Sought n form answer form′
-      → Answers answer 0 (wrongLength 96 form ∷ wrongMark form ∷ [])
+      → Answers answer 0 (wrongLength 104 form ∷ wrongMark form ∷ wrongGroup form ∷ [])
   pub skip : (n : ℕ) (form : List ℕ) (answer : ℤ) (form′ : List ℕ) → philox.Skipped n form answer form′
-      → Answers answer 0 (wrongLength 96 form ∷ wrongMark form ∷ [])
-  pub draws-left : (form : List ℕ) → Answers (philox.drawsLeft form) (leftIn form) (wrongLength 96 form ∷ wrongMark form ∷ [])
+      → Answers answer 0 (wrongLength 104 form ∷ wrongMark form ∷ wrongGroup form ∷ [])
+  pub draws-left : (form : List ℕ) → Answers (philox.drawsLeft form) (leftIn form)
+      (wrongLength 104 form ∷ wrongMark form ∷ wrongGroup form ∷ [])
+  pub label : (form : List ℕ) (first : ℕ) (answer : ℤ) (first′ : ℕ) → philox.Labelled form first answer first′
+      → Answers answer (markIn (fields philox-form.layout form)) (wrongLength 104 form ∷ wrongMark form ∷ wrongGroup form ∷ [])
+  pub from-96 : (old form : List ℕ) (answer : ℤ) (form′ : List ℕ) → philox.From96 old form answer form′
+      → Answers answer 0 (wrongLengths 96 old 104 form ∷ wrongMark (withNumber old) ∷ wrongGroup (withNumber old) ∷ [])
+  pub to-96 : (form old : List ℕ) (answer : ℤ) (old′ : List ℕ) → philox.To96 form old answer old′
+      → Answers answer 0 (wrongLengths 104 form 96 old ∷ wrongMark form ∷ wrongGroup form ∷ [])
+
+-- the first block that an accepted form's label has: the number where words wait, the counter where none do
+pub record LabelTells (form : List ℕ) (first : ℕ) (answer : ℤ) (first′ : ℕ) : Type 0 where
+  pub upper : answer ≡ pos 1 → first′ ≡ numberIn (fields philox-form.layout form)
+  pub lower : answer ≡ pos 0 → first′ ≡ counterIn (fields philox-form.layout form)
+
+abbrev pub LabelFirst : Type 0
+LabelFirst = (form : List ℕ) (first : ℕ) (answer : ℤ) (first′ : ℕ) → philox.Labelled form first answer first′
+    → LabelTells form first answer first′
+
+-- an old form that was moved, and is moved back, has its old bytes
+abbrev pub MovedBack : Type 0
+MovedBack = (old form form′ old₂ : List ℕ) (answer : ℤ) (old₂′ : List ℕ) → philox.From96 old form (pos 0) form′ → length old₂ ≡ 96
+    → philox.To96 form′ old₂ answer old₂′ → (answer ≡ pos 0) × (old₂′ ≡ old)
+
+-- a Philox form of bytes that is not refused is replaced, by every call, with one that is not refused; and one that was moved is such a one
+pub record StaysAccepted : Type 0 where
+  pub fill : (form : List ℕ) → ((i : ℕ) → getD form i 0 < 256) → philox-form.loaded form .refusal ≡ 0
+      → (k : ℕ) (out : List ℕ) (answer : ℤ) (form′ out′ : List ℕ) → philox.Filled form k out answer form′ out′
+      → philox-form.loaded form′ .refusal ≡ 0
+  pub seek : (form : List ℕ) → ((i : ℕ) → getD form i 0 < 256) → philox-form.loaded form .refusal ≡ 0
+      → (n : ℕ) → n < 2 ^ 64 → (answer : ℤ) (form′ : List ℕ) → philox.Sought n form answer form′ → philox-form.loaded form′ .refusal ≡ 0
+  pub skip : (form : List ℕ) → ((i : ℕ) → getD form i 0 < 256) → philox-form.loaded form .refusal ≡ 0
+      → (n : ℕ) (answer : ℤ) (form′ : List ℕ) → philox.Skipped n form answer form′ → philox-form.loaded form′ .refusal ≡ 0
+  pub from-96 : (old form form′ : List ℕ) → philox.From96 old form (pos 0) form′ → philox-form.loaded form′ .refusal ≡ 0
 
 -- after an accepted seek to n, on a form of bytes, none wait and the one more is gone
 abbrev pub SoughtLeft : Type 0

@@ -25,18 +25,19 @@ pub record Called (refusal value : ℕ) (new form form′ : List ℕ) (answer : 
   pub answers : answer ≡ answerOf refusal value
   pub saves : form′ ≡ unless refusal new form
 
--- How the generators of an engine are kept: the engine, the refusal and the generator of a form, and the form of a generator.
+-- How the generators of an engine are kept: the engine; the refusal of a form, and of a form in a fill whose kind and length have the
+-- refusal r; the generator of a form; and the form of a generator.
 pub record Forms (G : Type 0) : Type 0 where
   pub engine : Engine G
   pub refusal : List ℕ → ℕ
+  pub refusalBy : List ℕ → ℕ → ℕ
   pub read : List ℕ → G
   pub form : G → List ℕ
 
--- A fill of kind k: what is refused of the form (1 to 3) comes before what is refused of the kind (4) and of the length (5). Accepted, it
--- answers the draws of the typed fill, the output holds that fill's bytes, and the form is that of the state after them; refused, the output
--- and the form are as they were.
+-- A fill of kind k. Accepted, it answers the draws of the typed fill, the output holds that fill's bytes, and the form is that of the state
+-- after them; refused, the output and the form are as they were.
 abbrev pub fillRefusal : {G : Type 0} → Forms G → List ℕ → ℕ → List ℕ → ℕ
-fillRefusal H form k out = firstOf (H .refusal form) (refusalOf k (length out))
+fillRefusal H form k out = H .refusalBy form (refusalOf k (length out))
 
 pub record HostFill {G : Type 0} (H : Forms G) (form : List ℕ) (k : ℕ) (out : List ℕ) (answer : ℤ) (form′ out′ : List ℕ) : Type 0 where
   pub called : Called (fillRefusal H form k out) (bytesDraws k (length out)) (H .form (iterate (H .engine .next) (bytesDraws k (length out)) (H .read form))) form form′ answer

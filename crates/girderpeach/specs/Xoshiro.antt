@@ -9,10 +9,18 @@ use Rattle.saved.specs.fields.Saved.{lengthRefusal}
 use Rattle.saved.specs.xoshiro256pp.Form.{layout, formOf, loaded}
 use Rattle.xoshiro.specs.x8.Calls.{engine, placed, movedBlocks}
 use Rattle.xoshiro.specs.declared.x8.Xoshiro256ppX8.{Xoshiro256ppX8}
-use Rattle.girderpeach.specs.Host.{Called, Forms, HostFill, HostSkip}
+use Rattle.girderpeach.specs.Host.{firstOf, Called, Forms, HostFill, HostSkip}
 
+-- in a fill, what is refused of the form (1, 3) comes before what is refused of the kind (4) and of the length (5)
 abbrev pub forms : Forms Xoshiro256ppX8
-forms = record { engine = engine; refusal = λ s. loaded s .refusal; read = λ s. loaded s .rng; form = formOf }
+forms =
+    record {
+      engine = engine;
+      refusal = λ s. loaded s .refusal;
+      refusalBy = λ s r. firstOf (loaded s .refusal) r;
+      read = λ s. loaded s .rng;
+      form = formOf;
+    }
 
 -- gp_xoshiro_fill
 abbrev pub Filled : List ℕ → ℕ → List ℕ → ℤ → List ℕ → List ℕ → Type 0

@@ -1,5 +1,6 @@
 // Girderpeach for C (include/girderpeach.h): fills of both engines from a saved form, which each accepted call replaces with the state after
 // it. An answer is a number, or minus a refusal's number; a refused call changes no byte.
+use fills::kinds;
 use saved::philox4x32;
 use saved::xoshiro256pp;
 ghost use mathlib.Core.Path.{_≡_};
@@ -10,7 +11,7 @@ ghost use Rattle.girderpeach.specs.Philox as philox;
 
 // The answer of a call: its value, or minus its refusal.
 fn answer_of(refusal: u64, value: u64) -> i64
-    requires { ⌜ (refusal ≤ 5) × (value < 2 ^ 63) ⌝ }
+    requires { ⌜ (refusal ≤ 14) × (value < 2 ^ 63) ⌝ }
     ensures { λ r. ⌜ r ≡ answerOf refusal value ⌝ }
 {
     if refusal == 0 {
@@ -38,19 +39,24 @@ pub extern "C" fn gp_xoshiro_fill(form: &mut [u8], kind: u64, out: &mut [u8]) ->
     answer_of(0, f.draws)
 }
 
+// The same, of a Philox form. Words that aren't their group's are refused after a kind or a length.
 #[no_mangle]
 pub extern "C" fn gp_philox_fill(form: &mut [u8], kind: u64, out: &mut [u8]) -> i64
     ensures { λ r. ⌜ philox.Filled (now (form .entry)) kind (now (out .entry)) r (now (form .exit)) (now (out .exit)) ⌝ }
 {
-    let g = philox4x32::load(form);
+    let g = philox4x32::parse(form);
     if g.refusal != 0 {
         return answer_of(g.refusal, 0);
     }
-    let rng = g.rng;
-    let f = philox_fills::bytes::fill_bytes(rng, kind, out);
-    if f.refusal != 0 {
-        return answer_of(f.refusal, 0);
+    let refusal = kinds::refusal_of(kind, out.len());
+    if refusal != 0 {
+        return answer_of(refusal, 0);
     }
+    let rng = g.rng;
+    if !philox4x32::is_numbered(rng) {
+        return answer_of(14, 0);
+    }
+    let f = philox_fills::bytes::fill_bytes(rng, kind, out);
     let last = f.rng;
     philox4x32::save(last, form);
     answer_of(0, f.draws)
@@ -156,4 +162,40 @@ pub extern "C" fn gp_philox_draws_left(form: &[u8]) -> i64
     let rng = g.rng;
     let left = rng.draws_left();
     answer_of(0, left)
+}
+
+// Writes the first block of the next draw's group. Answers 0 where the draw is the group's lower half, 1 where it is the upper.
+#[no_mangle]
+pub extern "C" fn gp_philox_label(form: &[u8], first: &mut u64) -> i64
+    ensures { λ r. ⌜ philox.Labelled (now (form .entry)) (now (first .entry)) r (now (first .exit)) ⌝ }
+{
+    let g = philox4x32::load(form);
+    if g.refusal != 0 {
+        return answer_of(g.refusal, 0);
+    }
+    let rng = g.rng;
+    let label = rng.label();
+    *first = label.first;
+    if label.upper {
+        return 1;
+    }
+    0
+}
+
+// Moves the form of 96 bytes `old` to the form of 104 bytes `form`.
+#[no_mangle]
+pub extern "C" fn gp_philox_from_96(old: &[u8], form: &mut [u8]) -> i64
+    ensures { λ r. ⌜ philox.From96 (now (old .entry)) (now (form .entry)) r (now (form .exit)) ⌝ }
+{
+    let moved = philox4x32::from_96(old, form);
+    answer_of(moved, 0)
+}
+
+// Moves the form of 104 bytes `form` to the form of 96 bytes `old`.
+#[no_mangle]
+pub extern "C" fn gp_philox_to_96(form: &[u8], old: &mut [u8]) -> i64
+    ensures { λ r. ⌜ philox.To96 (now (form .entry)) (now (old .entry)) r (now (old .exit)) ⌝ }
+{
+    let back = philox4x32::to_96(form, old);
+    answer_of(back, 0)
 }

@@ -1,14 +1,14 @@
-// Philox4x32-10 and its fills for a caller in C: a static library that tests/oracle links beside the Rust. The first five arguments are the
-// generator's fields; each call that moves the generator leaves in them the generator after the call.
+// Philox4x32-10 and its fills for a caller in C: a static library that tests/oracle links beside the Rust. The first six arguments are the
+// generator's fields; each call that moves the generator leaves in them the generator after the call. A draw and a fill leave their label
+// in `from`, the first block of the group, and `upper`.
 use philox::x8::Philox4x32X8;
 use philox_fills::bytes;
 use philox_fills::typed;
 ghost use mathlib.Core.Path.{_≡_};
-ghost use Rattle.fills.specs.Fill.{Filled};
-ghost use Rattle.fills.specs.FillBytes.{FilledBytes};
 ghost use Rattle.fills.specs.Kinds.{u64s, u32s, f32s, f64s, normalF32s, normalF64s};
-ghost use Rattle.philox.specs.x8.Machine.{drawn, fresh, sought, grouped, leftOf, engine};
-ghost use Rattle.oracle_philox.specs.States.{counted, blocksOf};
+ghost use Rattle.philox.specs.x8.Machine.{drawn, fresh, sought, grouped, leftOf};
+ghost use Rattle.philox_fills.specs.Labelled.{LabelledFill, LabelledBytes};
+ghost use Rattle.oracle_philox.specs.States.{counted, labelled, blocksOf};
 
 #[no_mangle]
 pub extern "C" fn oracle_philox_new(
@@ -17,10 +17,12 @@ pub extern "C" fn oracle_philox_new(
     counter: &mut u64,
     waiting: &mut bool,
     pending: &mut [u64; 8],
+    first: &mut u64,
     seed: u64,
     id: u64,
 )
-    ensures { λ _. ⌜ counted (now (key .exit)) (now (stream .exit)) (now (counter .exit)) (now (waiting .exit)) (now (pending .exit)) ≡ fresh seed id ⌝ }
+    ensures { λ _. ⌜ counted (now (key .exit)) (now (stream .exit)) (now (counter .exit)) (now (waiting .exit)) (now (pending .exit))
+        (now (first .exit)) ≡ fresh seed id ⌝ }
 {
     let rng = Philox4x32X8::new(seed, id);
     let k = rng.key;
@@ -30,6 +32,7 @@ pub extern "C" fn oracle_philox_new(
     *counter = rng.counter;
     *waiting = rng.waiting;
     *pending = p;
+    *first = rng.first;
 }
 
 #[no_mangle]
@@ -39,9 +42,12 @@ pub extern "C" fn oracle_philox_seek(
     counter: &mut u64,
     waiting: &mut bool,
     pending: &mut [u64; 8],
+    first: &mut u64,
     block: u64,
 )
-    ensures { λ _. ⌜ counted (now (key .exit)) (now (stream .exit)) (now (counter .exit)) (now (waiting .exit)) (now (pending .exit)) ≡ sought (counted (now (key .entry)) (now (stream .entry)) (now (counter .entry)) (now (waiting .entry)) (now (pending .entry))) block ⌝ }
+    ensures { λ _. ⌜ counted (now (key .exit)) (now (stream .exit)) (now (counter .exit)) (now (waiting .exit)) (now (pending .exit))
+        (now (first .exit)) ≡ sought (counted (now (key .entry)) (now (stream .entry)) (now (counter .entry)) (now (waiting .entry))
+        (now (pending .entry)) (now (first .entry))) block ⌝ }
 {
     let k = *key;
     let p = *pending;
@@ -51,6 +57,7 @@ pub extern "C" fn oracle_philox_seek(
         counter: *counter,
         waiting: *waiting,
         pending: p,
+        first: *first,
     };
     let rng = g.seek(block);
     let k = rng.key;
@@ -60,6 +67,7 @@ pub extern "C" fn oracle_philox_seek(
     *counter = rng.counter;
     *waiting = rng.waiting;
     *pending = p;
+    *first = rng.first;
 }
 
 #[no_mangle]
@@ -69,9 +77,19 @@ pub extern "C" fn oracle_philox_next_u64x8(
     counter: &mut u64,
     waiting: &mut bool,
     pending: &mut [u64; 8],
+    first: &mut u64,
+    from: &mut u64,
+    upper: &mut bool,
     words: &mut [u64; 8],
 )
-    ensures { λ _. ⌜ record { words = now (words .exit); rng = counted (now (key .exit)) (now (stream .exit)) (now (counter .exit)) (now (waiting .exit)) (now (pending .exit)) } ≡ drawn (counted (now (key .entry)) (now (stream .entry)) (now (counter .entry)) (now (waiting .entry)) (now (pending .entry))) ⌝ }
+    ensures { λ _. ⌜ record {
+      words = now (words .exit);
+      label = labelled (now (from .exit)) (now (upper .exit));
+      rng = counted
+          (now (key .exit)) (now (stream .exit)) (now (counter .exit)) (now (waiting .exit)) (now (pending .exit)) (now (first .exit));
+    }
+        ≡ drawn (counted (now (key .entry)) (now (stream .entry)) (now (counter .entry)) (now (waiting .entry)) (now (pending .entry))
+        (now (first .entry))) ⌝ }
 {
     let k = *key;
     let p = *pending;
@@ -81,10 +99,13 @@ pub extern "C" fn oracle_philox_next_u64x8(
         counter: *counter,
         waiting: *waiting,
         pending: p,
+        first: *first,
     };
     let d = g.next_u64x8();
     let w = d.words;
     *words = w;
+    *from = d.label.first;
+    *upper = d.label.upper;
     let rng = d.rng;
     let k = rng.key;
     let p = rng.pending;
@@ -93,6 +114,7 @@ pub extern "C" fn oracle_philox_next_u64x8(
     *counter = rng.counter;
     *waiting = rng.waiting;
     *pending = p;
+    *first = rng.first;
 }
 
 // `words` has word k of block i at place i of row k.
@@ -103,9 +125,13 @@ pub extern "C" fn oracle_philox_blocks(
     counter: &mut u64,
     waiting: &mut bool,
     pending: &mut [u64; 8],
+    first: &mut u64,
     words: &mut [[u32; 8]; 4],
 )
-    ensures { λ _. ⌜ blocksOf (now (words .exit)) (counted (now (key .exit)) (now (stream .exit)) (now (counter .exit)) (now (waiting .exit)) (now (pending .exit))) ≡ grouped (counted (now (key .entry)) (now (stream .entry)) (now (counter .entry)) (now (waiting .entry)) (now (pending .entry))) ⌝ }
+    ensures { λ _. ⌜ blocksOf (now (words .exit)) (counted (now (key .exit)) (now (stream .exit)) (now (counter .exit))
+        (now (waiting .exit)) (now (pending .exit)) (now (first .exit))) ≡ grouped
+        (counted (now (key .entry)) (now (stream .entry)) (now (counter .entry)) (now (waiting .entry)) (now (pending .entry))
+        (now (first .entry))) ⌝ }
 {
     let k = *key;
     let p = *pending;
@@ -115,6 +141,7 @@ pub extern "C" fn oracle_philox_blocks(
         counter: *counter,
         waiting: *waiting,
         pending: p,
+        first: *first,
     };
     let b = g.blocks();
     let w0 = b.w0;
@@ -131,6 +158,7 @@ pub extern "C" fn oracle_philox_blocks(
     *counter = rng.counter;
     *waiting = rng.waiting;
     *pending = p;
+    *first = rng.first;
 }
 
 #[no_mangle]
@@ -140,9 +168,11 @@ pub extern "C" fn oracle_philox_draws_left(
     counter: &u64,
     waiting: &bool,
     pending: &[u64; 8],
+    first: &u64,
 ) -> u64
     ensures { λ r. ⌜ r
-        ≡ leftOf (counted (now (key .entry)) (now (stream .entry)) (now (counter .entry)) (now (waiting .entry)) (now (pending .entry))) ⌝ }
+        ≡ leftOf (counted (now (key .entry)) (now (stream .entry)) (now (counter .entry)) (now (waiting .entry)) (now (pending .entry))
+        (now (first .entry))) ⌝ }
 {
     let k = *key;
     let p = *pending;
@@ -152,6 +182,7 @@ pub extern "C" fn oracle_philox_draws_left(
         counter: *counter,
         waiting: *waiting,
         pending: p,
+        first: *first,
     };
     g.draws_left()
 }
@@ -164,9 +195,19 @@ pub extern "C" fn oracle_philox_fill_u64(
     counter: &mut u64,
     waiting: &mut bool,
     pending: &mut [u64; 8],
+    first: &mut u64,
+    from: &mut u64,
+    upper: &mut bool,
     out: &mut [u64],
 ) -> u64
-    ensures { λ r. ⌜ Filled engine u64s (counted (now (key .entry)) (now (stream .entry)) (now (counter .entry)) (now (waiting .entry)) (now (pending .entry))) (now (out .entry)) (now (out .exit)) r (counted (now (key .exit)) (now (stream .exit)) (now (counter .exit)) (now (waiting .exit)) (now (pending .exit))) ⌝ }
+    ensures { λ r. ⌜ LabelledFill u64s (counted (now (key .entry)) (now (stream .entry)) (now (counter .entry)) (now (waiting .entry))
+        (now (pending .entry)) (now (first .entry))) (now (out .entry)) (now (out .exit))
+        (record {
+          draws = r;
+          label = labelled (now (from .exit)) (now (upper .exit));
+          rng = counted (now (key .exit)) (now (stream .exit))
+              (now (counter .exit)) (now (waiting .exit)) (now (pending .exit)) (now (first .exit));
+        }) ⌝ }
 {
     let k = *key;
     let p = *pending;
@@ -176,8 +217,11 @@ pub extern "C" fn oracle_philox_fill_u64(
         counter: *counter,
         waiting: *waiting,
         pending: p,
+        first: *first,
     };
     let f = typed::fill_u64(g, out);
+    *from = f.label.first;
+    *upper = f.label.upper;
     let rng = f.rng;
     let k = rng.key;
     let p = rng.pending;
@@ -186,6 +230,7 @@ pub extern "C" fn oracle_philox_fill_u64(
     *counter = rng.counter;
     *waiting = rng.waiting;
     *pending = p;
+    *first = rng.first;
     f.draws
 }
 
@@ -196,9 +241,19 @@ pub extern "C" fn oracle_philox_fill_u32(
     counter: &mut u64,
     waiting: &mut bool,
     pending: &mut [u64; 8],
+    first: &mut u64,
+    from: &mut u64,
+    upper: &mut bool,
     out: &mut [u32],
 ) -> u64
-    ensures { λ r. ⌜ Filled engine u32s (counted (now (key .entry)) (now (stream .entry)) (now (counter .entry)) (now (waiting .entry)) (now (pending .entry))) (now (out .entry)) (now (out .exit)) r (counted (now (key .exit)) (now (stream .exit)) (now (counter .exit)) (now (waiting .exit)) (now (pending .exit))) ⌝ }
+    ensures { λ r. ⌜ LabelledFill u32s (counted (now (key .entry)) (now (stream .entry)) (now (counter .entry)) (now (waiting .entry))
+        (now (pending .entry)) (now (first .entry))) (now (out .entry)) (now (out .exit))
+        (record {
+          draws = r;
+          label = labelled (now (from .exit)) (now (upper .exit));
+          rng = counted (now (key .exit)) (now (stream .exit))
+              (now (counter .exit)) (now (waiting .exit)) (now (pending .exit)) (now (first .exit));
+        }) ⌝ }
 {
     let k = *key;
     let p = *pending;
@@ -208,8 +263,11 @@ pub extern "C" fn oracle_philox_fill_u32(
         counter: *counter,
         waiting: *waiting,
         pending: p,
+        first: *first,
     };
     let f = typed::fill_u32(g, out);
+    *from = f.label.first;
+    *upper = f.label.upper;
     let rng = f.rng;
     let k = rng.key;
     let p = rng.pending;
@@ -218,6 +276,7 @@ pub extern "C" fn oracle_philox_fill_u32(
     *counter = rng.counter;
     *waiting = rng.waiting;
     *pending = p;
+    *first = rng.first;
     f.draws
 }
 
@@ -228,9 +287,19 @@ pub extern "C" fn oracle_philox_fill_f32(
     counter: &mut u64,
     waiting: &mut bool,
     pending: &mut [u64; 8],
+    first: &mut u64,
+    from: &mut u64,
+    upper: &mut bool,
     out: &mut [f32],
 ) -> u64
-    ensures { λ r. ⌜ Filled engine f32s (counted (now (key .entry)) (now (stream .entry)) (now (counter .entry)) (now (waiting .entry)) (now (pending .entry))) (now (out .entry)) (now (out .exit)) r (counted (now (key .exit)) (now (stream .exit)) (now (counter .exit)) (now (waiting .exit)) (now (pending .exit))) ⌝ }
+    ensures { λ r. ⌜ LabelledFill f32s (counted (now (key .entry)) (now (stream .entry)) (now (counter .entry)) (now (waiting .entry))
+        (now (pending .entry)) (now (first .entry))) (now (out .entry)) (now (out .exit))
+        (record {
+          draws = r;
+          label = labelled (now (from .exit)) (now (upper .exit));
+          rng = counted (now (key .exit)) (now (stream .exit))
+              (now (counter .exit)) (now (waiting .exit)) (now (pending .exit)) (now (first .exit));
+        }) ⌝ }
 {
     let k = *key;
     let p = *pending;
@@ -240,8 +309,11 @@ pub extern "C" fn oracle_philox_fill_f32(
         counter: *counter,
         waiting: *waiting,
         pending: p,
+        first: *first,
     };
     let f = typed::fill_f32(g, out);
+    *from = f.label.first;
+    *upper = f.label.upper;
     let rng = f.rng;
     let k = rng.key;
     let p = rng.pending;
@@ -250,6 +322,7 @@ pub extern "C" fn oracle_philox_fill_f32(
     *counter = rng.counter;
     *waiting = rng.waiting;
     *pending = p;
+    *first = rng.first;
     f.draws
 }
 
@@ -260,9 +333,19 @@ pub extern "C" fn oracle_philox_fill_f64(
     counter: &mut u64,
     waiting: &mut bool,
     pending: &mut [u64; 8],
+    first: &mut u64,
+    from: &mut u64,
+    upper: &mut bool,
     out: &mut [f64],
 ) -> u64
-    ensures { λ r. ⌜ Filled engine f64s (counted (now (key .entry)) (now (stream .entry)) (now (counter .entry)) (now (waiting .entry)) (now (pending .entry))) (now (out .entry)) (now (out .exit)) r (counted (now (key .exit)) (now (stream .exit)) (now (counter .exit)) (now (waiting .exit)) (now (pending .exit))) ⌝ }
+    ensures { λ r. ⌜ LabelledFill f64s (counted (now (key .entry)) (now (stream .entry)) (now (counter .entry)) (now (waiting .entry))
+        (now (pending .entry)) (now (first .entry))) (now (out .entry)) (now (out .exit))
+        (record {
+          draws = r;
+          label = labelled (now (from .exit)) (now (upper .exit));
+          rng = counted (now (key .exit)) (now (stream .exit))
+              (now (counter .exit)) (now (waiting .exit)) (now (pending .exit)) (now (first .exit));
+        }) ⌝ }
 {
     let k = *key;
     let p = *pending;
@@ -272,8 +355,11 @@ pub extern "C" fn oracle_philox_fill_f64(
         counter: *counter,
         waiting: *waiting,
         pending: p,
+        first: *first,
     };
     let f = typed::fill_f64(g, out);
+    *from = f.label.first;
+    *upper = f.label.upper;
     let rng = f.rng;
     let k = rng.key;
     let p = rng.pending;
@@ -282,6 +368,7 @@ pub extern "C" fn oracle_philox_fill_f64(
     *counter = rng.counter;
     *waiting = rng.waiting;
     *pending = p;
+    *first = rng.first;
     f.draws
 }
 
@@ -292,9 +379,19 @@ pub extern "C" fn oracle_philox_fill_normal_f32(
     counter: &mut u64,
     waiting: &mut bool,
     pending: &mut [u64; 8],
+    first: &mut u64,
+    from: &mut u64,
+    upper: &mut bool,
     out: &mut [f32],
 ) -> u64
-    ensures { λ r. ⌜ Filled engine normalF32s (counted (now (key .entry)) (now (stream .entry)) (now (counter .entry)) (now (waiting .entry)) (now (pending .entry))) (now (out .entry)) (now (out .exit)) r (counted (now (key .exit)) (now (stream .exit)) (now (counter .exit)) (now (waiting .exit)) (now (pending .exit))) ⌝ }
+    ensures { λ r. ⌜ LabelledFill normalF32s (counted (now (key .entry)) (now (stream .entry)) (now (counter .entry)) (now (waiting .entry))
+        (now (pending .entry)) (now (first .entry))) (now (out .entry)) (now (out .exit))
+        (record {
+          draws = r;
+          label = labelled (now (from .exit)) (now (upper .exit));
+          rng = counted (now (key .exit)) (now (stream .exit))
+              (now (counter .exit)) (now (waiting .exit)) (now (pending .exit)) (now (first .exit));
+        }) ⌝ }
 {
     let k = *key;
     let p = *pending;
@@ -304,8 +401,11 @@ pub extern "C" fn oracle_philox_fill_normal_f32(
         counter: *counter,
         waiting: *waiting,
         pending: p,
+        first: *first,
     };
     let f = typed::fill_normal_f32(g, out);
+    *from = f.label.first;
+    *upper = f.label.upper;
     let rng = f.rng;
     let k = rng.key;
     let p = rng.pending;
@@ -314,6 +414,7 @@ pub extern "C" fn oracle_philox_fill_normal_f32(
     *counter = rng.counter;
     *waiting = rng.waiting;
     *pending = p;
+    *first = rng.first;
     f.draws
 }
 
@@ -324,9 +425,19 @@ pub extern "C" fn oracle_philox_fill_normal_f64(
     counter: &mut u64,
     waiting: &mut bool,
     pending: &mut [u64; 8],
+    first: &mut u64,
+    from: &mut u64,
+    upper: &mut bool,
     out: &mut [f64],
 ) -> u64
-    ensures { λ r. ⌜ Filled engine normalF64s (counted (now (key .entry)) (now (stream .entry)) (now (counter .entry)) (now (waiting .entry)) (now (pending .entry))) (now (out .entry)) (now (out .exit)) r (counted (now (key .exit)) (now (stream .exit)) (now (counter .exit)) (now (waiting .exit)) (now (pending .exit))) ⌝ }
+    ensures { λ r. ⌜ LabelledFill normalF64s (counted (now (key .entry)) (now (stream .entry)) (now (counter .entry)) (now (waiting .entry))
+        (now (pending .entry)) (now (first .entry))) (now (out .entry)) (now (out .exit))
+        (record {
+          draws = r;
+          label = labelled (now (from .exit)) (now (upper .exit));
+          rng = counted (now (key .exit)) (now (stream .exit))
+              (now (counter .exit)) (now (waiting .exit)) (now (pending .exit)) (now (first .exit));
+        }) ⌝ }
 {
     let k = *key;
     let p = *pending;
@@ -336,8 +447,11 @@ pub extern "C" fn oracle_philox_fill_normal_f64(
         counter: *counter,
         waiting: *waiting,
         pending: p,
+        first: *first,
     };
     let f = typed::fill_normal_f64(g, out);
+    *from = f.label.first;
+    *upper = f.label.upper;
     let rng = f.rng;
     let k = rng.key;
     let p = rng.pending;
@@ -346,6 +460,7 @@ pub extern "C" fn oracle_philox_fill_normal_f64(
     *counter = rng.counter;
     *waiting = rng.waiting;
     *pending = p;
+    *first = rng.first;
     f.draws
 }
 
@@ -357,11 +472,22 @@ pub extern "C" fn oracle_philox_fill_bytes(
     counter: &mut u64,
     waiting: &mut bool,
     pending: &mut [u64; 8],
+    first: &mut u64,
+    from: &mut u64,
+    upper: &mut bool,
     kind: u64,
     out: &mut [u8],
     draws: &mut u64,
 ) -> u64
-    ensures { λ r. ⌜ FilledBytes engine kind (counted (now (key .entry)) (now (stream .entry)) (now (counter .entry)) (now (waiting .entry)) (now (pending .entry))) (now (out .entry)) (now (out .exit)) r (now (draws .exit)) (counted (now (key .exit)) (now (stream .exit)) (now (counter .exit)) (now (waiting .exit)) (now (pending .exit))) ⌝ }
+    ensures { λ r. ⌜ LabelledBytes kind (counted (now (key .entry)) (now (stream .entry)) (now (counter .entry)) (now (waiting .entry))
+        (now (pending .entry)) (now (first .entry))) (now (out .entry)) (now (out .exit))
+        (record {
+          refusal = r;
+          draws = now (draws .exit);
+          label = labelled (now (from .exit)) (now (upper .exit));
+          rng = counted
+              (now (key .exit)) (now (stream .exit)) (now (counter .exit)) (now (waiting .exit)) (now (pending .exit)) (now (first .exit));
+        }) ⌝ }
 {
     let k = *key;
     let p = *pending;
@@ -371,8 +497,11 @@ pub extern "C" fn oracle_philox_fill_bytes(
         counter: *counter,
         waiting: *waiting,
         pending: p,
+        first: *first,
     };
     let f = bytes::fill_bytes(g, kind, out);
+    *from = f.label.first;
+    *upper = f.label.upper;
     let rng = f.rng;
     let k = rng.key;
     let p = rng.pending;
@@ -381,6 +510,7 @@ pub extern "C" fn oracle_philox_fill_bytes(
     *counter = rng.counter;
     *waiting = rng.waiting;
     *pending = p;
+    *first = rng.first;
     *draws = f.draws;
     f.refusal
 }

@@ -1,6 +1,7 @@
 // Many draws of Philox4x32-10 at once, straight into a slice: the lower words of eight blocks, then their upper words, with no words left to
 // wait between the two; and one draw, made the same way. Fills are made of these calls.
 use crate::x8::Draw;
+use crate::x8::Label;
 use crate::x8::Philox4x32X8;
 use slices::u64s;
 ghost use mathlib.Core.Path.{_≡_};
@@ -10,7 +11,7 @@ ghost use Rattle.base.specs.Engine.{DrawnAt};
 ghost use Rattle.base.specs.Quad.{quadOf, listOf};
 ghost use Rattle.base.specs.Table.{table};
 ghost use Rattle.philox.specs.block.Philox.{round as roundOf, block as blockOf};
-ghost use Rattle.philox.specs.x8.Machine.{drawn, engine};
+ghost use Rattle.philox.specs.x8.Machine.{upperAt, labelOf, drawn, engine};
 ghost use Rattle.philox.specs.draws.Draws.{Small, lowerOf, upperOf, atBlock, drawsAtOnce};
 
 // The multipliers, and what a round adds to the key words.
@@ -101,34 +102,53 @@ pub fn draw(g: Philox4x32X8) -> Draw
     let waiting = g.waiting;
     if waiting {
         let words = g.pending;
+        let first = g.first;
+        let upper = true;
+        let label = Label { first, upper };
         let rng = g.seek(g.counter);
-        return Draw { words, rng };
+        return Draw { words, label, rng };
     }
     let key = g.key;
     let mut both = [0u64; 16];
     let counter = put_groups(key, g.stream, g.counter, &mut both, 0, 1);
     let words = half(&both, 0);
     let pending = half(&both, 8);
+    let first = g.counter;
     let rng = Philox4x32X8 {
         key,
         stream: g.stream,
         counter,
         waiting: true,
         pending,
+        first,
     };
-    Draw { words, rng }
+    let upper = false;
+    let label = Label { first, upper };
+    Draw { words, label, rng }
 }
 
-// The draws that a call made, and the generator after them.
+// The upper words of the eight blocks from block `n` on.
+pub fn upper_words(g: Philox4x32X8, n: u64) -> [u64; 8]
+    ensures { λ r. ⌜ r ≡ upperAt g n ⌝ }
+{
+    let mut group = [0u64; 16];
+    let key = g.key;
+    put_groups(key, g.stream, n, &mut group, 0, 1);
+    half(&group, 8)
+}
+
+// The draws that a call made, the label of the first (of the next draw, where it made none), and the generator after them.
 pub struct Drawn {
     pub draws: usize,
+    pub label: Label,
     pub rng: Philox4x32X8,
 }
 
 // Many draws at once, their words in the places from `at` on: the words that wait, if any do; else as many whole groups of two draws as
 // there is room for.
 pub fn draw_many(g: Philox4x32X8, out: &mut [u64], at: usize) -> Drawn
-    ensures { λ r. ⌜ DrawnAt engine g at (drawsAtOnce g (length (now (out .entry)) - at)) (now (out .entry)) (now (out .exit)) (r .draws) (r .rng) ⌝ }
+    ensures { λ r. ⌜ DrawnAt engine g at (drawsAtOnce g (length (now (out .entry)) - at)) (now (out .entry)) (now (out .exit)) (r .draws)
+        (r .rng) × (r .label ≡ labelOf g) ⌝ }
 {
     let waiting = g.waiting;
     if waiting {
@@ -136,15 +156,32 @@ pub fn draw_many(g: Philox4x32X8, out: &mut [u64], at: usize) -> Drawn
         let w = d.words;
         u64s::put_u64(out, at, w);
         let rng = d.rng;
-        return Drawn { draws: 1, rng };
+        let label = d.label;
+        return Drawn {
+            draws: 1,
+            label,
+            rng,
+        };
     }
+    let label = Label {
+        first: g.counter,
+        upper: false,
+    };
     let m = words::room(out.len(), at, out.len()) / 16;
     // with no draws the generator stays as it is, whatever it holds in the place of words that wait
     if m == 0 {
-        return Drawn { draws: 0, rng: g };
+        return Drawn {
+            draws: 0,
+            label,
+            rng: g,
+        };
     }
     let key = g.key;
     let n = put_groups(key, g.stream, g.counter, out, at, m);
     let rng = g.seek(n);
-    Drawn { draws: 2 * m, rng }
+    Drawn {
+        draws: 2 * m,
+        label,
+        rng,
+    }
 }

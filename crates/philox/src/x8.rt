@@ -2,7 +2,7 @@
 use crate::block;
 ghost use mathlib.Core.Path.{_≡_};
 ghost use Prim.Native.Nat.{_+_, _*_, _%_, _^_, _<_};
-ghost use Rattle.philox.specs.x8.Machine.{joinOf, fresh, sought, grouped, drawn, skipped, leftOf};
+ghost use Rattle.philox.specs.x8.Machine.{joinOf, fresh, sought, grouped, labelOf, drawn, skipped, leftOf};
 
 // Eight words from their halves.
 fn joined(lo: [u32; 8], hi: [u32; 8]) -> [u64; 8]
@@ -15,19 +15,27 @@ fn joined(lo: [u32; 8], hi: [u32; 8]) -> [u64; 8]
     out
 }
 
-// A key, a stream and a block counter; and eight words that wait for the next draw, or zeros where none wait. (The one byte stands last, so that
-// a copy moves the words as words.)
+// A key, a stream and a block counter; and eight words that wait for the next draw, with the first block of their group, or zeros where
+// none wait. (The one byte stands last, so that a copy moves the words as words.)
 pub struct Philox4x32X8 {
     pub key: [u32; 2],
     pub stream: u64,
     pub counter: u64,
     pub pending: [u64; 8],
+    pub first: u64,
     pub waiting: bool,
 }
 
-// Eight words, and the generator after them.
+// Where a draw's words come from: the first block of its group, and whether they are the group's upper half.
+pub struct Label {
+    pub first: u64,
+    pub upper: bool,
+}
+
+// Eight words, their label, and the generator after them.
 pub struct Draw {
     pub words: [u64; 8],
+    pub label: Label,
     pub rng: Philox4x32X8,
 }
 
@@ -80,6 +88,7 @@ impl Philox4x32X8 {
             counter: 0,
             waiting: false,
             pending: [0; 8],
+            first: 0,
         }
     }
 
@@ -90,16 +99,18 @@ impl Philox4x32X8 {
         let key = self.key;
         let waiting = false;
         let pending = [0u64; 8];
+        let first = 0u64;
         Self {
             key,
             stream: self.stream,
             counter: block,
             waiting,
             pending,
+            first,
         }
     }
 
-    // The eight blocks at the counter. Words that wait go on waiting.
+    // The eight blocks at the counter. Words that wait go on waiting, and keep the number of their group.
     pub fn blocks(self) -> Blocks
         ensures { λ r. ⌜ r ≡ grouped self ⌝ }
     {
@@ -117,6 +128,7 @@ impl Philox4x32X8 {
             counter,
             waiting: self.waiting,
             pending,
+            first: self.first,
         };
         Blocks {
             w0,
@@ -127,6 +139,24 @@ impl Philox4x32X8 {
         }
     }
 
+    // The label of the next draw.
+    pub fn label(self) -> Label
+        ensures { λ r. ⌜ r ≡ labelOf self ⌝ }
+    {
+        let kept = self.first;
+        let next = self.counter;
+        if self.waiting {
+            return Label {
+                first: kept,
+                upper: true,
+            };
+        }
+        Label {
+            first: next,
+            upper: false,
+        }
+    }
+
     // One draw: the words that wait; or the lower words of the next eight blocks, whose upper words then wait.
     pub fn next_u64x8(self) -> Draw
         ensures { λ r. ⌜ r ≡ drawn self ⌝ }
@@ -134,8 +164,11 @@ impl Philox4x32X8 {
         let waiting = self.waiting;
         if waiting {
             let words = self.pending;
+            let first = self.first;
+            let upper = true;
+            let label = Label { first, upper };
             let rng = self.seek(self.counter);
-            return Draw { words, rng };
+            return Draw { words, label, rng };
         }
         let key = self.key;
         let group = block::eight_blocks(key, self.stream, self.counter);
@@ -145,14 +178,18 @@ impl Philox4x32X8 {
         let w3 = group.w3;
         let words = joined(w0, w1);
         let pending = joined(w2, w3);
+        let first = self.counter;
         let rng = Philox4x32X8 {
             key,
             stream: self.stream,
             counter: std::num::wrapping_add_u64(self.counter, 8),
             waiting: true,
             pending,
+            first,
         };
-        Draw { words, rng }
+        let upper = false;
+        let label = Label { first, upper };
+        Draw { words, label, rng }
     }
 
     // The generator after `n` draws.

@@ -1,27 +1,29 @@
 // The byte fills of Philox4x32-10: what a host asks for by a kind's number.
 use crate::fill_words;
-use crate::fill_words::Fill;
+use crate::fill_words::Made;
 use elements::groups;
 use fills::kinds;
 use normals::normal_f64s;
 use philox::draws;
+use philox::x8::Label;
 use philox::x8::Philox4x32X8;
 ghost use mathlib.Core.Path.{_≡_};
 ghost use Rattle.fills.specs.Buffer.{bytesKind};
 ghost use Rattle.fills.specs.Fill.{Filled};
-ghost use Rattle.fills.specs.FillBytes.{FilledBytes};
 ghost use Rattle.fills.specs.Kinds.{normalF64s, kindAt};
 ghost use Rattle.philox.specs.x8.Machine.{engine};
+ghost use Rattle.philox_fills.specs.Labelled.{LabelledBytes};
 
-// The number of a byte fill's refusal, or 0; its draws, and the generator after them.
+// The number of a byte fill's refusal, or 0; its draws, the label of the first, and the generator after them.
 pub struct ByteFill {
     pub refusal: u64,
     pub draws: u64,
+    pub label: Label,
     pub rng: Philox4x32X8,
 }
 
 // The bytes of a kind whose groups take one draw, draw by draw.
-fn fill_draws(g: Philox4x32X8, kind: u64, out: &mut [u8]) -> Fill
+fn fill_draws(g: Philox4x32X8, kind: u64, out: &mut [u8]) -> Made
     requires { ⌜ (kind ≡ 6 → ⊥) ⌝ }
     ensures { λ r. ⌜ Filled engine (bytesKind (kindAt kind .kind)) g (now (out .entry)) (now (out .exit)) (r .draws) (r .rng) ⌝ }
 {
@@ -33,14 +35,14 @@ fn fill_draws(g: Philox4x32X8, kind: u64, out: &mut [u8]) -> Fill
         element_bytes::put_group(kind, out, j * 64, w);
         rng = d.rng;
     }
-    Fill {
+    Made {
         rng,
         draws: m as u64,
     }
 }
 
 // Kind 6, draw by draw.
-fn fill_normal_f64(g: Philox4x32X8, out: &mut [u8]) -> Fill
+fn fill_normal_f64(g: Philox4x32X8, out: &mut [u8]) -> Made
     ensures { λ r. ⌜ Filled engine (bytesKind normalF64s) g (now (out .entry)) (now (out .exit)) (r .draws) (r .rng) ⌝ }
 {
     let m = groups::groups_in(out.len(), 128);
@@ -54,14 +56,14 @@ fn fill_normal_f64(g: Philox4x32X8, out: &mut [u8]) -> Fill
         normal_f64s::put_bytes(out, j * 128, a, b);
         rng = e.rng;
     }
-    Fill {
+    Made {
         rng,
         draws: 2 * m as u64,
     }
 }
 
 // The bytes of a kind, by way of a buffer of draws, many of which are made at once.
-fn fill_ahead(g: Philox4x32X8, kind: u64, out: &mut [u8]) -> Fill
+fn fill_ahead(g: Philox4x32X8, kind: u64, out: &mut [u8]) -> Made
     ensures { λ r. ⌜ Filled engine (bytesKind (kindAt kind .kind)) g (now (out .entry)) (now (out .exit)) (r .draws) (r .rng) ⌝ }
 {
     let mut rng = g;
@@ -76,11 +78,11 @@ fn fill_ahead(g: Philox4x32X8, kind: u64, out: &mut [u8]) -> Fill
         draws += f.draws;
         at += m * 64;
     }
-    Fill { rng, draws }
+    Made { rng, draws }
 }
 
 // The bytes of a kind. A buffer is worth its while from eight draws on.
-fn fill_kind(g: Philox4x32X8, kind: u64, out: &mut [u8]) -> Fill
+fn fill_kind(g: Philox4x32X8, kind: u64, out: &mut [u8]) -> Made
     ensures { λ r. ⌜ Filled engine (bytesKind (kindAt kind .kind)) g (now (out .entry)) (now (out .exit)) (r .draws) (r .rng) ⌝ }
 {
     if 512 <= out.len() {
@@ -93,23 +95,30 @@ fn fill_kind(g: Philox4x32X8, kind: u64, out: &mut [u8]) -> Fill
 }
 
 // The bytes of the fill of a kind, by its number: elements little-endian, floats as their bits. Refused with 4 where `kind` is no kind's number,
-// with 5 where the length isn't a multiple of the kind's width; then nothing changes.
+// with 5 where the length isn't a multiple of the kind's width; then nothing changes, and the label is zero bits.
 pub fn fill_bytes(g: Philox4x32X8, kind: u64, out: &mut [u8]) -> ByteFill
-    ensures { λ r. ⌜ FilledBytes engine kind g (now (out .entry)) (now (out .exit)) (r .refusal) (r .draws) (r .rng) ⌝ }
+    ensures { λ r. ⌜ LabelledBytes kind g (now (out .entry)) (now (out .exit)) r ⌝ }
 {
     let refusal = kinds::refusal_of(kind, out.len());
     if refusal != 0 {
+        let none = Label {
+            first: 0,
+            upper: false,
+        };
         return ByteFill {
             refusal,
             draws: 0,
+            label: none,
             rng: g,
         };
     }
+    let label = g.label();
     let f = fill_kind(g, kind, out);
     let rng = f.rng;
     ByteFill {
         refusal: 0,
         draws: f.draws,
+        label,
         rng,
     }
 }

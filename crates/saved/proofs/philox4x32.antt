@@ -1,3 +1,5 @@
 pub mod Form
+pub mod Moves
 pub mod Widths
 pub mod Theorems
+pub mod Sound

@@ -76,14 +76,13 @@ fn put_whole(out: &mut [u8], at: usize, v: [u64; 8])
     }
 }
 
-// Stores the first of 64 bytes in the places from `at` on, as far as `out` has them.
-fn put_part(out: &mut [u8], at: usize, v: &[u8; 64])
-    requires { ⌜ length (now v) ≡ 64 ⌝ }
+// Stores `v` in the places from `at` on, as far as `out` has them.
+pub fn put_bytes(out: &mut [u8], at: usize, v: &[u8])
     ensures { λ _. ⌜ now (out .exit) ≡ stored (now (out .entry)) at (now (v .entry)) ⌝ }
 {
-    let n = words::room(out.len(), at, 64);
-    for i in 0..n {
-        out[at + i] = v[i];
+    let n = words::room(out.len(), at, v.len());
+    for k in 0..n {
+        out[at + k] = v[k];
     }
 }
 
@@ -93,7 +92,7 @@ fn put_first_words(out: &mut [u8], at: usize, v: [u64; 8])
 {
     let mut part = [0u8; 64];
     put_whole(&mut part, 0, v);
-    put_part(out, at, &part);
+    put_bytes(out, at, &part);
 }
 
 // Stores the bytes of eight words, one after another, from place `at` on, as far as `out` has places.
@@ -162,7 +161,7 @@ fn put_first_halves(out: &mut [u8], at: usize, lo: [u32; 8], hi: [u32; 8])
 {
     let mut part = [0u8; 64];
     whole_halves(&mut part, 0, lo, hi);
-    put_part(out, at, &part);
+    put_bytes(out, at, &part);
 }
 
 // Stores the bytes of sixteen halves, those of `lo` and then those of `hi`, from place `at` on, as far as `out` has places.

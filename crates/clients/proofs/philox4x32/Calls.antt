@@ -5,16 +5,15 @@ use Prim.Native.Nat.{ℕ, _+_, _^_, _<_}
 use lib.Ieee.{Float}
 use Rattle.base.specs.Lists.{none, then}
 use Rattle.base.proofs.Iterate.{iterate-more}
-use Rattle.fills.specs.Fill.{Filled}
-use Rattle.fills.specs.FillBytes.{FilledBytes}
 use Rattle.fills.specs.Kinds.{normalF64s}
 use Rattle.history.specs.host.Philox.{standing}
 use Rattle.history.specs.philox4x32.Calls.{Call, draw, seek, fill, bytes}
 use Rattle.history.specs.philox4x32.History.{oneDraw, History}
 use Rattle.history.proofs.philox4x32.Theorems.{draws-add-up}
-use Rattle.philox.specs.x8.Machine.{engine, drawn, fresh, sought}
+use Rattle.philox.specs.x8.Machine.{drawn, fresh, sought}
 use Rattle.philox.specs.declared.x8.Draw.{Draw}
 use Rattle.philox.specs.declared.x8.Philox4x32X8.{Philox4x32X8}
+use Rattle.philox_fills.specs.Labelled.{LabelledFill, LabelledBytes}
 use Rattle.philox_fills.specs.declared.bytes.ByteFill.{ByteFill}
 use Rattle.philox_fills.specs.declared.fill_words.Fill.{Fill}
 use Rattle.clients.specs.philox4x32.Model.{atBlock, dBytes, Simulated}
@@ -22,8 +21,8 @@ use Rattle.clients.proofs.Bytes.{left-by}
 
 module _ (seed stream n kind : ℕ) {normals normals′ : List Float} {raw raw′ : List ℕ} {start : Philox4x32X8} {filled : Fill}
     {found : Philox4x32X8} {written : ByteFill} {last : Draw} (u64 : n < 2 ^ 64) (e₀ : start ≡ fresh seed stream)
-    (e₁ : Filled engine normalF64s start normals normals′ (filled .draws) (filled .rng)) (e₂ : found ≡ sought (filled .rng) n)
-    (e₃ : FilledBytes engine kind found raw raw′ (written .refusal) (written .draws) (written .rng))
+    (e₁ : LabelledFill normalF64s start normals normals′ filled) (e₂ : found ≡ sought (filled .rng) n)
+    (e₃ : LabelledBytes kind found raw raw′ written)
     (e₄ : last ≡ drawn (written .rng)) where
   -- the list, its latest call first: what came before a call is the tail
   abbrev calls : List Call
@@ -38,16 +37,25 @@ module _ (seed stream n kind : ℕ) {normals normals′ : List Float} {raw raw�
   one-more = iterate-more oneDraw (dBytes kind raw) _
 
   pub simulated : Simulated seed stream n kind normals normals′ raw raw′
-      (record { words = last .words; draws = written .draws + 1; refusal = written .refusal; rng = last .rng })
+      (record { words = last .words; label = last .label; draws = written .draws + 1; refusal = written .refusal; rng = last .rng })
   simulated =
       let out = h .outputs in
       record {
-        normal = out .1 .1 .1 .0 .writes;
-        refused = out .1 .0 .refuses;
-        bytes = left-by (out .1 .0);
-        words = out .0;
-        draws = ap (λ (d : ℕ). d + 1) (out .1 .0 .count);
+        normal = out .1 .1 .1 .0 .0 .writes;
+        refused = out .1 .0 .0 .refuses;
+        bytes = left-by (out .1 .0 .0);
+        words = out .0 .0;
+        label = out .0 .1;
+        draws = ap (λ (d : ℕ). d + 1) (out .1 .0 .0 .count);
         rng =
-            (λ i. record { key = h .key i; stream = h .stream i; counter = h .counter i; waiting = h .waits i; pending = h .pending i })
+            (λ i.
+            record {
+              key = h .key i;
+              stream = h .stream i;
+              counter = h .counter i;
+              waiting = h .waits i;
+              pending = h .pending i;
+              first = h .first i;
+            })
             ∙ ap (standing (fresh seed stream)) (sym one-more);
       }

@@ -1,4 +1,5 @@
--- What `simulate` promises: `wordsAt g t` are the words of the draw where the tally is t, under the key and on the stream of g.
+-- What `simulate` promises: `wordsAt g t` are the words of the draw where the tally is t, under the key and on the stream of g, and
+-- `labelAt t` is its label.
 use mathlib.Core.List.{List}
 use mathlib.Core.Path.{_≡_}
 use Prim.Native.Nat.{ℕ, _+_}
@@ -11,7 +12,7 @@ use Rattle.fills.specs.Fill.{element}
 use Rattle.fills.specs.FillBytes.{refusalOf, bytesWritten, bytesDraws}
 use Rattle.fills.specs.Kinds.{normalF64s}
 use Rattle.history.specs.host.Philox.{standing}
-use Rattle.history.specs.philox4x32.History.{Tally, start, oneDraw, wordsAt}
+use Rattle.history.specs.philox4x32.History.{Tally, start, oneDraw, wordsAt, labelAt}
 use Rattle.philox.specs.x8.Machine.{fresh}
 use Rattle.clients.specs.declared.philox4x32.Outcome.{Outcome}
 
@@ -30,7 +31,8 @@ pub record Simulated (seed stream n kind : ℕ) (normals normals′ : List Float
   -- the bytes, from block n on; a refused fill leaves them as they were
   pub refused : r .refusal ≡ refusalOf kind (length raw)
   pub bytes : raw′ ≡ unless (r .refusal) (bytesWritten kind (λ m. wordsAt (fresh seed stream) (atBlock n m)) (length raw)) raw
-  -- the last draw, the draws since the seek, and the generator after them
+  -- the last draw and its label, the draws since the seek, and the generator after them
   pub words : r .words ≡ wordsAt (fresh seed stream) (atBlock n (dBytes kind raw))
+  pub label : r .label ≡ labelAt (atBlock n (dBytes kind raw))
   pub draws : r .draws ≡ dBytes kind raw + 1
   pub rng : r .rng ≡ standing (fresh seed stream) (atBlock n (dBytes kind raw + 1))

@@ -8,7 +8,7 @@ use Rattle.base.specs.Engine.{wordsFrom}
 use Rattle.base.specs.Refused.{unless}
 use Rattle.base.specs.Iterate.{iterate}
 use Rattle.fills.specs.FillBytes.{refusalOf, bytesWritten, bytesDraws}
-use Rattle.girderpeach.specs.Host.{answerOf, firstOf, Called, Forms, HostFill, HostSkip}
+use Rattle.girderpeach.specs.Host.{answerOf, Called, Forms, HostFill, HostSkip}
 use Rattle.history.specs.host.Answers.{ifAccepted, answered, RightAnswer}
 
 -- ---- any call
@@ -35,14 +35,14 @@ module _ {r v : ℕ} {new form form′ : List ℕ} {answer : ℤ} (c : Called r 
   pub counted : answered answer ≡ ifAccepted answer v 0
   counted = ap answered (c .answers) ∙ reports r v ∙ chosen v 0
 
--- ---- a fill, where the form is accepted, and is that of the generator g
+-- ---- a fill, where the form is accepted, so that only the kind and the length are refused, and is that of the generator g
 module _ {G : Type 0} {H : Forms G} {form : List ℕ} {k : ℕ} {before : List ℕ} {answer : ℤ} {form′ after : List ℕ} (F : HostFill H form k before answer form′ after)
-    (ok : H .refusal form ≡ 0) {g : G} (read : H .read form ≡ g) where
+    (ok : (r : ℕ) → H .refusalBy form r ≡ r) {g : G} (read : H .read form ≡ g) where
   -- it is right, where W m are the words of draw m from g
   pub right : (W : ℕ → List ℕ) → ((m : ℕ) → wordsFrom (H .engine) g m ≡ W m) → RightAnswer (refusalOf k (length before)) W k before after answer form form′
   right W same =
       record {
-        answers = F .called .answers ∙ ap (λ (r : ℕ). answerOf (firstOf r (refusalOf k (length before))) (bytesDraws k (length before))) ok;
+        answers = F .called .answers ∙ ap (λ (r : ℕ). answerOf r (bytesDraws k (length before))) (ok (refusalOf k (length before)));
         writes =
             F .writes
             ∙ chosen (F .called) _ before

@@ -25,4 +25,5 @@ host-ships =
       xoshiro-skip = λ κs a r e. (refl, refl);
       philox-skip = λ κs a r e. (refl, refl);
       philox-draws-left = λ κs a r e. (refl, refl);
+      philox-label = λ κs a r e. (refl, refl);
     }

@@ -13,7 +13,7 @@ use Rattle.base.specs.Table.{table}
 use Rattle.base.proofs.Iterate.{iterate-keeps}
 use Rattle.base.proofs.Lists.{along}
 use Rattle.base.proofs.Quad.{rowsOf-same}
-use Rattle.girderpeach.specs.Host.{answerOf}
+use Rattle.girderpeach.specs.Host.{answerOf, firstOf}
 use Rattle.girderpeach.specs.Xoshiro.{forms}
 use Rattle.xoshiro_steps.specs.Xoshiro256pp.{State, steps}
 use Rattle.xoshiro.specs.scalar.Seeded.{seeded}
@@ -54,6 +54,10 @@ module _ {s : State} {d j : ℕ} {form : List ℕ} (h : Held s d j form) where
   ok : loaded form .refusal ≡ 0
   ok = ap (λ (x : LanesAnswer). x .refusal) read-back
 
+  -- in a fill the kind and the length alone are refused
+  fills : (r : ℕ) → forms .refusalBy form r ≡ r
+  fills r = ap (λ (x : ℕ). firstOf x r) ok
+
   read : loaded form .rng ≡ h .g
   read = ap (λ (x : LanesAnswer). x .rng) read-back
 
@@ -84,8 +88,8 @@ one {j = j} h (fill k before after answer form′) F =
     record {
       draws = counted (F .called);
       jumps = refl;
-      right = right F (ok h) (read h) _ (λ m. words-at (at-draws m (h .at)));
-      held = held-same (held-draws h _ (leaves F (ok h) (read h) (h .holds))) refl (sym (add-zero j)) refl;
+      right = right F (fills h) (read h) _ (λ m. words-at (at-draws m (h .at)));
+      held = held-same (held-draws h _ (leaves F (fills h) (read h) (h .holds))) refl (sym (add-zero j)) refl;
     }
 one {d = d} {j} {form} h (move n before after answer form′) F =
     let count : after ≡ blockJumps n = F .counts ∙ ap (λ (r : ℕ). unless r (blockJumps n) before) (ok h) in

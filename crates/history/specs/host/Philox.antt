@@ -3,15 +3,15 @@
 use mathlib.Core.Bool.{cond}
 use mathlib.Core.List.{List}
 use mathlib.Core.Path.{_≡_}
-use Prim.Native.Nat.{ℕ, _+_, _^_, _<_}
+use Prim.Native.Nat.{ℕ, _+_, _%_, _^_, _<_}
 use lib.IntN.{ℤ, pos}
 use lib.ListN.{length}
 use Rattle.base.specs.Iterate.{iterate}
 use Rattle.base.specs.Lists as lists
 use Rattle.base.specs.Lists.{folded, Each}
 use Rattle.fills.specs.FillBytes.{refusalOf, bytesDraws}
-use Rattle.girderpeach.specs.Philox.{Filled, New, Sought, Skipped, drawsLeft}
-use Rattle.history.specs.philox4x32.History.{Tally, counterOf, waitsOf, leftAt, start, oneDraw, wordsAt}
+use Rattle.girderpeach.specs.Philox.{Filled, New, Sought, Skipped, Labelled, drawsLeft}
+use Rattle.history.specs.philox4x32.History.{Tally, counterOf, waitsOf, leftAt, start, oneDraw, wordsAt, labelAt}
 use Rattle.saved.specs.philox4x32.Form.{formOf}
 use Rattle.philox.specs.x8.Machine.{upperAt, none8, fresh}
 use Rattle.philox.specs.declared.x8.Philox4x32X8.{Philox4x32X8}
@@ -63,12 +63,20 @@ abbrev pub reported : List Call → ℕ
 reported calls = folded reportedAfter 0 calls
 
 -- ---- the claim
--- the generator with the key and stream of g₀, and the counter and the waiting words that the tally gives
+-- the generator with the key and stream of g₀, and the counter, the waiting words and their group's first block that the tally gives
 abbrev pub standing : Philox4x32X8 → Tally → Philox4x32X8
-standing g₀ t = record { key = g₀ .key; stream = g₀ .stream; counter = counterOf t; waiting = waitsOf t; pending = cond (waitsOf t) (upperAt g₀ (t .from)) none8 }
+standing g₀ t =
+    record {
+      key = g₀ .key;
+      stream = g₀ .stream;
+      counter = counterOf t;
+      waiting = waitsOf t;
+      pending = cond (waitsOf t) (upperAt g₀ (t .from)) none8;
+      first = cond (waitsOf t) (t .from) 0;
+    }
 
--- a call on `form` is right, where the tally before it is t: only a kind or a length is ever refused. Draw m of a fill has m draws more. A
--- seek and a skip are never refused
+-- a call on `form` is right, where the tally before it is t: only a kind or a length is ever refused, and never the form. Draw m of a fill
+-- has m draws more. A seek and a skip are never refused
 abbrev pub Right : Philox4x32X8 → Tally → List ℕ → Call → Type 0
 Right g₀ t form (fill k before after answer form′) = RightAnswer (refusalOf k (length before)) (λ m. wordsAt g₀ (iterate oneDraw m t)) k before after answer form form′
 Right g₀ t form (seek n u64 answer form′) = answer ≡ pos 0
@@ -81,10 +89,13 @@ AllRight g₀ s₀ = Each (λ calls c. Right g₀ (tally calls) (formAfter s₀ 
 pub record History (g₀ : Philox4x32X8) (s₀ : List ℕ) (calls : List Call) : Type 0 where
   -- the reported draws are d
   pub draws : reported calls ≡ tally calls .d
-  -- the form is that of the counter and the waiting words of the tally
+  -- the form is that of the counter, the waiting words and their number of the tally
   pub form : formAfter s₀ calls ≡ formOf (standing g₀ (tally calls))
   -- the draws left, as gp_philox_draws_left answers them
   pub left : drawsLeft (formAfter s₀ calls) ≡ pos (leftAt (tally calls))
+  -- the label of the next draw, as gp_philox_label answers it: 1 for an upper half, which is where d is odd
+  pub label : (first : ℕ) (answer : ℤ) (first′ : ℕ) → Labelled (formAfter s₀ calls) first answer first′
+      → (answer ≡ pos (tally calls .d % 2)) × (first′ ≡ labelAt (tally calls) .first)
   -- every call answered and wrote what it should
   pub outputs : AllRight g₀ s₀ calls
 

@@ -1,6 +1,6 @@
 -- The lists of a host's calls are lists of calls of the C functions that ship: what a caller learns from a function's own contract is its
--- call's step in a list, and the function asks nothing. The draws left, of which the lists tell after every call, are what the function
--- that answers them promises.
+-- call's step in a list, and the function asks nothing. The draws left and the label of the next draw, of which the lists tell after every
+-- call, are what the functions that answer them promise.
 use mathlib.Core.Path.{_≡_}
 use Prim.Native.Nat.{_^_, _<_}
 use contract.Lifetimes.{Lfts}
@@ -10,6 +10,7 @@ use Rattle.girderpeach.specs.Philox as philox-calls
 use Rattle.girderpeach.specs.Xoshiro as xoshiro-calls
 use Rattle.girderpeach.proofs.gp_philox_draws_left.Reads as philox-left-reads
 use Rattle.girderpeach.proofs.gp_philox_fill.Reads as philox-fill-reads
+use Rattle.girderpeach.proofs.gp_philox_label.Reads as philox-label-reads
 use Rattle.girderpeach.proofs.gp_philox_new.Reads as philox-new-reads
 use Rattle.girderpeach.proofs.gp_philox_seek.Kinds as philox-seek-kinds
 use Rattle.girderpeach.proofs.gp_philox_seek.Reads as philox-seek-reads
@@ -46,3 +47,6 @@ pub record HostShips : Type 1 where
       (λ κs a r e. philox.Step (now (a .0)) (philox.skip (a .1 .0) r (now (e .0))))
   -- the draws left: no step
   pub philox-draws-left : Says philox-left-reads.Asked philox-left-reads.Learnt (λ κs a r e. r ≡ philox-calls.drawsLeft (now (a .0)))
+  -- the label of the next draw
+  pub philox-label : Says philox-label-reads.Asked philox-label-reads.Learnt
+      (λ κs a r e. philox-calls.Labelled (now (a .0)) (now (a .1 .0)) r (now (e .1 .0)))

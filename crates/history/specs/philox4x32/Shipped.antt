@@ -1,6 +1,6 @@
 -- The lists are lists of calls of the functions that ship: for each constructor from a seed, and each public function that moves a Philox
--- generator or draws from it, what a caller learns from its own contract is its call's step in a list, and it asks nothing. The draws left,
--- of which the lists tell after every call, are what the function that answers them promises.
+-- generator or draws from it, what a caller learns from its own contract is its call's step in a list, and it asks nothing. The draws left
+-- and the label of the next draw, of which the lists tell after every call, are what the functions that answer them promise.
 use mathlib.Core.Path.{_≡_}
 use Prim.Native.Nat.{_-_, _^_, _<_, min}
 use contract.Lifetimes.{Lfts}
@@ -9,12 +9,13 @@ use denote.Ref.{now}
 use lib.ListN.{length}
 use Rattle.fills.specs.Kinds.{u64s, u32s, f32s, f64s, normalF32s, normalF64s}
 use Rattle.philox.specs.draws.Draws.{drawsAtOnce}
-use Rattle.philox.specs.x8.Machine.{fresh, leftOf}
+use Rattle.philox.specs.x8.Machine.{fresh, labelOf, leftOf}
 use Rattle.philox.proofs.draws.draw.Reads as draw-reads
 use Rattle.philox.proofs.draws.draw_many.Reads as draw-many-reads
 use Rattle.philox.proofs.x8.Philox4x32X8.blocks.Reads as blocks-reads
 use Rattle.philox.proofs.x8.Philox4x32X8.draws_left.Reads as draws-left-reads
 use Rattle.philox.proofs.x8.Philox4x32X8.from_seed.Reads as from-seed-reads
+use Rattle.philox.proofs.x8.Philox4x32X8.label.Reads as label-reads
 use Rattle.philox.proofs.x8.Philox4x32X8.new.Reads as new-reads
 use Rattle.philox.proofs.x8.Philox4x32X8.next_u64x8.Reads as next-u64x8-reads
 use Rattle.philox.proofs.x8.Philox4x32X8.seek.Kinds as seek-kinds
@@ -45,6 +46,8 @@ pub record PhiloxShips : Type 1 where
   pub skips : Says skip-reads.Asked skip-reads.Learnt (λ κs a r e. Step (a .0) (skip (a .1 .0) r))
   -- the draws left: no step
   pub draws-left : Says draws-left-reads.Asked draws-left-reads.Learnt (λ κs a r e. r ≡ leftOf (a .0))
+  -- the label of the next draw: no step
+  pub label : Says label-reads.Asked label-reads.Learnt (λ κs a r e. r ≡ labelOf (a .0))
   -- the fills
   pub fill-u64 : Says fill-u64-reads.Asked fill-u64-reads.Learnt (λ κs a r e. Step (a .0) (fill u64s (now (a .1 .0)) (now (e .1 .0)) r))
   pub fill-u32 : Says fill-u32-reads.Asked fill-u32-reads.Learnt (λ κs a r e. Step (a .0) (fill u32s (now (a .1 .0)) (now (e .1 .0)) r))
@@ -60,7 +63,7 @@ pub record PhiloxShips : Type 1 where
   pub draw-many : Says draw-many-reads.Asked draw-many-reads.Learnt
       (λ κs a r e.
       let m = drawsAtOnce (a .0) (length (now (a .1 .0)) - a .1 .1 .0) in
-      Step (a .0) (many (a .1 .1 .0) m (now (a .1 .0)) (now (e .1 .0)) (r .draws) (r .rng)))
+      Step (a .0) (many (a .1 .1 .0) m (now (a .1 .0)) (now (e .1 .0)) (r .draws) (r .label) (r .rng)))
   -- m draws, at most 16, into a buffer
   pub fill-buffer : Says fill-buffer-reads.Asked fill-buffer-reads.Learnt
-      (λ κs a r e. Step (a .0) (many 0 (min 16 (a .1 .1 .0)) (now (a .1 .0)) (now (e .1 .0)) (r .draws) (r .rng)))
+      (λ κs a r e. Step (a .0) (many 0 (min 16 (a .1 .1 .0)) (now (a .1 .0)) (now (e .1 .0)) (r .draws) (r .label) (r .rng)))

@@ -15,7 +15,7 @@ use Rattle.philox.specs.block.Philox.{block}
 use Rattle.philox.specs.x8.Machine.{blockAt, lowerAt, upperAt, sought, holding, past, wordsOf, nextOf, drawn, engine}
 use Rattle.philox.specs.declared.x8.Philox4x32X8.{Philox4x32X8}
 use Rattle.philox.specs.declared.x8.Draw.{Draw}
-use Rattle.philox.proofs.x8.Machine.{words-waiting, next-waiting, words-fresh, next-fresh}
+use Rattle.philox.proofs.x8.Machine.{words-waiting, next-waiting, words-fresh, next-fresh, label-by, begun}
 use Rattle.philox.proofs.x8.Theorems.{eight-words}
 use Rattle.philox.specs.draws.Draws.{lowerOf, upperOf, atBlock, drawsAtOnce}
 use Rattle.philox.proofs.draws.Stores.{Storing, storing-more, storing-end}
@@ -60,6 +60,12 @@ module _ (key : List ℕ) (stream n : ℕ) where
       let first = drawn-more eight-words D lower refl in
       let e : at + m * 8 + 8 ≡ at + (m + 1) * 8 = omega arith in
       drawn-more eight-words first (eo ∙ (λ k. stored (stored out (at + m * 8) (lowerAt G n)) (e k) (sym second-words k))) (ap (atBlock key stream) en ∙ sym second-next)
+
+-- the second of the two, both of them in a list of 16
+pub upper-drawn : (g : Philox4x32X8) (n : ℕ) {old both hi : List ℕ} {d : ℕ} {rng : Philox4x32X8} → length old ≡ 16
+    → DrawnAt engine (atBlock (g .key) (g .stream) n) 0 2 old both d rng → hi ≡ drawOf both 1 → hi ≡ upperAt g n
+unfolding iterate upperAt
+upper-drawn g n long D eh = eh ∙ held-at-first eight-words D (omega arith) 1 (omega arith) ∙ second-words (g .key) (g .stream) n
 
 -- ---- the loop over groups: the draws of the first i groups are stored, and block n is next
 pub record Grouping (key : List ℕ) (stream first : ℕ) (l : List ℕ) (at m : ℕ) (out : List ℕ) (n i : ℕ) : Type 0 where
@@ -131,15 +137,14 @@ module _ (g : Philox4x32X8) (e : g .waiting ≡ false) where
   -- one draw made with the one after it, the words of both in a list of 16
   pub both-drawn : {old both lo hi : List ℕ} {d n : ℕ} → length old ≡ 16 → DrawnAt engine H 0 2 old both d (atBlock (g .key) (g .stream) n)
       → lo ≡ drawOf both 0 → hi ≡ drawOf both 1
-      → _≡_ {A = Draw} (record { words = lo; rng = record { key = g .key; stream = g .stream; counter = n; waiting = true; pending = hi } }) (drawn g)
-  unfolding drawn holding iterate upperAt
+      → _≡_ {A = Draw} (record { words = lo; label = record { first = g .counter; upper = false }; rng = begun g n hi }) (drawn g)
+  unfolding drawn holding iterate
   both-drawn {n = n} long D el eh =
-      let held = held-at-first eight-words D (omega arith) in
-      let lo = el ∙ held 0 (omega arith) ∙ sym same-words in
-      let hi = eh ∙ held 1 (omega arith) ∙ second-words (g .key) (g .stream) (g .counter) in
+      let lo = el ∙ held-at-first eight-words D (omega arith) 0 (omega arith) ∙ sym same-words in
+      let hi = upper-drawn g (g .counter) long D eh in
       let en : n ≡ past (g .counter) = ap (λ (x : Philox4x32X8). x .counter) (D .state ∙ second-next (g .key) (g .stream) (g .counter)) in
-      let made : _≡_ {A = Philox4x32X8} (record { key = g .key; stream = g .stream; counter = n; waiting = true; pending = _ }) (nextOf g) = (λ i. record { key = g .key; stream = g .stream; counter = en i; waiting = true; pending = hi i }) ∙ sym (next-fresh g e) in
-      λ i. record { words = lo i; rng = made i }
+      let made : begun g n _ ≡ nextOf g = (λ i. begun g (en i) (hi i)) ∙ sym (next-fresh g e) in
+      λ i. record { words = lo i; label = sym (label-by g e) i; rng = made i }
 
   same-drawn : (m : ℕ) → drawnWords engine m g ≡ drawnWords engine m H
   unfolding drawnWords

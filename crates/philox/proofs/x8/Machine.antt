@@ -10,9 +10,11 @@ use Rattle.base.specs.Quad.{Quad}
 use Rattle.base.proofs.Table.{table-same, table-getD, getD-table}
 use Rattle.philox.specs.block.Philox.{groupOf}
 use Rattle.philox.specs.declared.block.Group.{Group}
-use Rattle.philox.specs.x8.Machine.{joinOf, blockAt, groupAt, lowerAt, upperAt, sought, holding, past, wordsOf, nextOf, drawn, leftOf}
+use Rattle.philox.specs.x8.Machine.{joinOf, blockAt, groupAt, lowerAt, upperAt, sought}
+use Rattle.philox.specs.x8.Machine.{holding, past, wordsOf, nextOf, labelOf, drawn, leftOf}
 use Rattle.philox.specs.declared.x8.Philox4x32X8.{Philox4x32X8}
 use Rattle.philox.specs.declared.x8.Draw.{Draw}
+use Rattle.philox.specs.declared.x8.Label.{Label}
 
 -- a group's rows, joined two by two
 joined : (f : ℕ → Quad) (lo hi : Quad → ℕ) → joinOf (table 8 (λ i. lo (f i))) (table 8 (λ i. hi (f i))) ≡ table 8 (λ i. lo (f i) + 2 ^ 32 * hi (f i))
@@ -46,21 +48,31 @@ pub next-fresh : (g : Philox4x32X8) → g .waiting ≡ false → nextOf g ≡ ho
 unfolding nextOf
 next-fresh g e = ap (λ (b : Bool). cond b (sought g (g .counter)) (holding g (past (g .counter)) (g .counter))) e
 
+-- ---- its label, by whether words wait
+pub label-by : (g : Philox4x32X8) {b : Bool} → g .waiting ≡ b → labelOf g ≡ record { first = cond b (g .first) (g .counter); upper = b }
+unfolding labelOf
+label-by g e = ap (λ (b : Bool). record { first = cond b (g .first) (g .counter); upper = b }) e
+
 -- ---- a draw made of its parts
+-- where none wait: the upper words of its group, which wait then, with its number
+abbrev pub begun : Philox4x32X8 → ℕ → List ℕ → Philox4x32X8
+begun g n hi = record { key = g .key; stream = g .stream; counter = n; waiting = true; pending = hi; first = g .counter }
+
 pub drawn-waiting : (g : Philox4x32X8) → g .waiting ≡ true → length (g .pending) ≡ 8 → {rng : Philox4x32X8} → rng ≡ sought g (g .counter)
-    → _≡_ {A = Draw} (record { words = g .pending; rng = rng }) (drawn g)
+    → _≡_ {A = Draw} (record { words = g .pending; label = record { first = g .first; upper = true }; rng = rng }) (drawn g)
 unfolding drawn
-drawn-waiting g e l er = λ i. record { words = sym (words-waiting g e l) i; rng = (er ∙ sym (next-waiting g e)) i }
+drawn-waiting g e l er =
+    λ i. record { words = sym (words-waiting g e l) i; label = sym (label-by g e) i; rng = (er ∙ sym (next-waiting g e)) i }
 
 pub drawn-fresh : (g : Philox4x32X8) → g .waiting ≡ false → {r : Group} {lo hi : List ℕ} {n : ℕ} → r ≡ groupAt g (g .counter)
     → lo ≡ joinOf (r .w0) (r .w1) → hi ≡ joinOf (r .w2) (r .w3) → n ≡ past (g .counter)
-    → _≡_ {A = Draw} (record { words = lo; rng = record { key = g .key; stream = g .stream; counter = n; waiting = true; pending = hi } }) (drawn g)
+    → _≡_ {A = Draw} (record { words = lo; label = record { first = g .counter; upper = false }; rng = begun g n hi }) (drawn g)
 unfolding drawn holding
 drawn-fresh g e er el eh en =
     let lo = el ∙ ap (λ (r : Group). joinOf (r .w0) (r .w1)) er ∙ lower-joined g (g .counter) in
     let hi = eh ∙ ap (λ (r : Group). joinOf (r .w2) (r .w3)) er ∙ upper-joined g (g .counter) in
-    (λ i. record { words = lo i; rng = record { key = g .key; stream = g .stream; counter = en i; waiting = true; pending = hi i } })
-    ∙ (λ i. record { words = sym (words-fresh g e) i; rng = sym (next-fresh g e) i })
+    (λ i. record { words = lo i; label = record { first = g .counter; upper = false }; rng = begun g (en i) (hi i) })
+    ∙ (λ i. record { words = sym (words-fresh g e) i; label = sym (label-by g e) i; rng = sym (next-fresh g e) i })
 
 -- ---- the draws left, by the groups and by whether words wait
 pub left-by : (g : Philox4x32X8) {b : Bool} → g .waiting ≡ b → leftOf g ≡ 2 * ((2 ^ 64 - g .counter) / 8) + cond b 1 0

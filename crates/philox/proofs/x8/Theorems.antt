@@ -9,20 +9,23 @@ use lib.ListN.{getD, length}
 use Rattle.base.specs.Iterate.{iterate}
 use Rattle.base.specs.Table.{table}
 use Rattle.base.specs.Quad.{Quad}
-use Rattle.base.proofs.Iterate.{iterate-more}
+use Rattle.base.proofs.Iterate.{iterate-more, iterate-keeps}
 use Rattle.base.proofs.Table.{getD-table}
 use Rattle.philox.specs.block.Philox.{groupOf}
-use Rattle.philox.specs.x8.Machine.{blockAt, lowerAt, upperAt, fresh, sought, holding, grouped, wordsOf, nextOf, drawn, leftOf}
+use Rattle.philox.specs.x8.Machine.{blockAt, lowerAt, upperAt, fresh, sought, holding}
+use Rattle.philox.specs.x8.Machine.{grouped, wordsOf, nextOf, labelOf, drawn, leftOf}
 use Rattle.philox.specs.x8.Claims.{DrawWaiting, DrawFresh, GroupCall, Seek, SkipSeeks, EightWords}
+use Rattle.philox.specs.x8.Claims.{LabelWaiting, LabelFresh, LabelKept, Numbered, KeepsNumber}
 use Rattle.philox.specs.x8.Claims.{LeftWaiting, LeftFresh, LeftSought, LeftDrawn, LeftGrouped}
 use Rattle.philox.specs.x8.Claims.{LeftWrapped, LeftAfter, LeftWithin, NoneLeft, LeftNew, LeftAtMost}
+use Rattle.philox.specs.declared.x8.Label.{Label}
 use Rattle.philox.specs.declared.x8.Philox4x32X8.{Philox4x32X8}
-use Rattle.philox.proofs.x8.Machine.{words-waiting, next-waiting, words-fresh, next-fresh, left-by}
+use Rattle.philox.proofs.x8.Machine.{words-waiting, next-waiting, words-fresh, next-fresh, label-by, left-by}
 use Rattle.philox.proofs.x8.Skipping.{even-draws}
 
 pub seek : Seek
 unfolding sought
-seek g n = record { same-key = refl; same-stream = refl; counter-is = refl; waits = refl }
+seek g n = record { same-key = refl; same-stream = refl; counter-is = refl; waits = refl; first-is = refl }
 
 pub draw-waiting : DrawWaiting
 unfolding drawn
@@ -33,15 +36,60 @@ unfolding drawn holding lowerAt upperAt
 draw-fresh g e = (
   (λ i h. ap (λ (l : List ℕ). getD l i 0) (words-fresh g e) ∙ getD-table 8 (λ j. blockAt g (g .counter + j) .w0 + 2 ^ 32 * blockAt g (g .counter + j) .w1) i 0 h),
   (λ i h. ap (λ (x : Philox4x32X8). getD (x .pending) i 0) (next-fresh g e) ∙ getD-table 8 (λ j. blockAt g (g .counter + j) .w2 + 2 ^ 32 * blockAt g (g .counter + j) .w3) i 0 h),
-  rw (next-fresh g e) (record { same-key = refl; same-stream = refl; counter-is = refl; waits = refl }),
+  rw (next-fresh g e) (record { same-key = refl; same-stream = refl; counter-is = refl; waits = refl; first-is = refl }),
 )
+
+-- ---- labels
+pub label-waiting : LabelWaiting
+unfolding drawn
+label-waiting g e = label-by g e
+
+pub label-fresh : LabelFresh
+unfolding drawn
+label-fresh g e = label-by g e
+
+-- after a draw that begins a group, m group calls later
+groups-keep : (m : ℕ) (g : Philox4x32X8) → (iterate (λ x. grouped x .rng) m g .waiting ≡ g .waiting)
+    × (iterate (λ x. grouped x .rng) m g .first ≡ g .first)
+unfolding iterate grouped
+groups-keep zero g = (refl, refl)
+groups-keep (suc m) g = groups-keep m g
+
+pub label-kept : LabelKept
+unfolding drawn holding
+label-kept g m e =
+    let next = next-fresh g e in
+    let kept = groups-keep m (nextOf g) in
+    let waits = kept .0 ∙ ap (λ (x : Philox4x32X8). x .waiting) next in
+    let first = kept .1 ∙ ap (λ (x : Philox4x32X8). x .first) next ∙ sym (ap (λ (l : Label). l .first) (label-by g e)) in
+    label-by (iterate (λ x. grouped x .rng) m (nextOf g)) waits ∙ ap (λ (n : ℕ). record { first = n; upper = true }) first
+
+-- ---- the number of the group that waits
+numbered-next : (g : Philox4x32X8) → Numbered (nextOf g)
+unfolding sought holding upperAt
+numbered-next g = go (g .waiting) refl
+  where
+    go : (b : Bool) → g .waiting ≡ b → Numbered (nextOf g)
+    go true e = rw (next-waiting g e) (λ w. absurd (true≢false (sym w)))
+    go false e = rw (next-fresh g e) (λ w. refl)
+
+pub keeps-number : KeepsNumber
+unfolding fresh drawn grouped sought upperAt iterate
+keeps-number =
+    record {
+      new = λ seed stream w. absurd (true≢false (sym w));
+      draw = λ g h. numbered-next g;
+      blocks = λ g h. h;
+      seek = λ g n h w. absurd (true≢false (sym w));
+      skip = λ g n h. iterate-keeps Numbered nextOf (λ x k. numbered-next x) n g h;
+    }
 
 pub group-call : GroupCall
 unfolding grouped groupOf
 group-call g = (
   (λ i h. (at (λ q. q .w0) i h, at (λ q. q .w1) i h, at (λ q. q .w2) i h, at (λ q. q .w3) i h)),
   refl,
-  record { same-key = refl; same-stream = refl; counter-is = refl; waits = refl },
+  record { same-key = refl; same-stream = refl; counter-is = refl; waits = refl; first-is = refl },
 )
   where
     at : (w : Quad → ℕ) (i : ℕ) → i < 8 → getD (table 8 (λ j. w (blockAt g (g .counter + j)))) i 0 ≡ w (blockAt g (g .counter + i))

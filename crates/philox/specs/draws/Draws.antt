@@ -22,7 +22,7 @@ upperOf q = q .w2 + 2 ^ 32 * q .w3
 
 -- the generator of a key and a stream at block n, and none wait
 abbrev pub atBlock : List ℕ → ℕ → ℕ → Philox4x32X8
-atBlock key stream n = record { key = key; stream = stream; counter = n; waiting = false; pending = none8 }
+atBlock key stream n = record { key = key; stream = stream; counter = n; waiting = false; pending = none8; first = 0 }
 
 -- the draws of one call where n places are left: the words that wait; or two for each group of eight blocks that has room
 unfoldable pub drawsAtOnce : Philox4x32X8 → ℕ → ℕ

@@ -10,6 +10,7 @@ use Rattle.base.specs.Quad.{Quad}
 use Rattle.philox.specs.block.Philox.{block, groupOf}
 use Rattle.philox.specs.declared.block.Group.{Group}
 use Rattle.philox.specs.declared.x8.Philox4x32X8.{Philox4x32X8}
+use Rattle.philox.specs.declared.x8.Label.{Label}
 use Rattle.philox.specs.declared.x8.Draw.{Draw}
 use Rattle.philox.specs.declared.x8.Blocks.{Blocks}
 
@@ -39,15 +40,16 @@ none8 = replicate 8 0
 
 -- new: stream `stream` of key `seed`, low half first, at block 0
 unfoldable pub fresh : ℕ → ℕ → Philox4x32X8
-fresh seed stream = record { key = seed % 2 ^ 32 ∷ seed / 2 ^ 32 ∷ []; stream = stream; counter = 0; waiting = false; pending = none8 }
+fresh seed stream =
+    record { key = seed % 2 ^ 32 ∷ seed / 2 ^ 32 ∷ []; stream = stream; counter = 0; waiting = false; pending = none8; first = 0 }
 
 -- at block n, and none wait
 unfoldable pub sought : Philox4x32X8 → ℕ → Philox4x32X8
-sought g n = record { key = g .key; stream = g .stream; counter = n; waiting = false; pending = none8 }
+sought g n = record { key = g .key; stream = g .stream; counter = n; waiting = false; pending = none8; first = 0 }
 
--- at block n, and the upper words of the eight blocks from block m on wait
+-- at block n, and the upper words of the eight blocks from block m on wait, with that number
 unfoldable pub holding : Philox4x32X8 → ℕ → ℕ → Philox4x32X8
-holding g n m = record { key = g .key; stream = g .stream; counter = n; waiting = true; pending = upperAt g m }
+holding g n m = record { key = g .key; stream = g .stream; counter = n; waiting = true; pending = upperAt g m; first = m }
 
 -- the counter after eight blocks
 abbrev pub past : ℕ → ℕ
@@ -61,8 +63,12 @@ wordsOf g = cond (g .waiting) (table 8 (λ i. getD (g .pending) i 0)) (lowerAt g
 unfoldable pub nextOf : Philox4x32X8 → Philox4x32X8
 nextOf g = cond (g .waiting) (sought g (g .counter)) (holding g (past (g .counter)) (g .counter))
 
+-- its label: the first block of its group, and whether it is the upper half
+unfoldable pub labelOf : Philox4x32X8 → Label
+labelOf g = record { first = cond (g .waiting) (g .first) (g .counter); upper = g .waiting }
+
 unfoldable pub drawn : Philox4x32X8 → Draw
-drawn g = record { words = wordsOf g; rng = nextOf g }
+drawn g = record { words = wordsOf g; label = labelOf g; rng = nextOf g }
 
 -- skip: the generator after n draws
 abbrev pub skipped : ℕ → Philox4x32X8 → Philox4x32X8
@@ -71,7 +77,7 @@ skipped = iterate nextOf
 abbrev pub engine : Engine Philox4x32X8
 engine = record { words = wordsOf; next = nextOf }
 
--- ---- blocks: the four words of the eight blocks at the counter; what waits stays
+-- ---- blocks: the four words of the eight blocks at the counter; what waits stays, and the number of its group
 unfoldable pub grouped : Philox4x32X8 → Blocks
 grouped g =
     record {
@@ -79,7 +85,16 @@ grouped g =
       w1 = groupAt g (g .counter) .w1;
       w2 = groupAt g (g .counter) .w2;
       w3 = groupAt g (g .counter) .w3;
-      rng = record { key = g .key; stream = g .stream; counter = past (g .counter); waiting = g .waiting; pending = g .pending };
+      rng =
+          record {
+            key = g .key;
+            stream = g .stream;
+            counter = past
+                (g .counter);
+            waiting = g .waiting;
+            pending = g .pending;
+            first = g .first;
+          };
     }
 
 -- ---- draws left: two for each whole group of eight blocks before block 2 ^ 64, and one more where words wait

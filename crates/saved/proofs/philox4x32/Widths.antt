@@ -1,4 +1,4 @@
--- Every generator that a call makes has a key of two words below 2 ^ 32 and words below 2 ^ 64, and is settled. Assumes nothing.
+-- Every generator that a call makes has a key of two words below 2 ^ 32 and words below 2 ^ 64. Assumes nothing.
 use mathlib.Core.Path.{_≡_, refl, _∙_}
 use mathlib.Core.Bool.{Bool, true, false, cond}
 use mathlib.Core.List.{List, [], _∷_}
@@ -18,7 +18,7 @@ use Rattle.saved.proofs.fields.Fields.{Bytes}
 use Rattle.philox.specs.block.Philox.{m0, m1, bump0, bump1, round, keyAt, rounds, counterOf, block}
 use Rattle.philox.specs.x8.Machine.{blockAt, upperAt, fresh, sought, holding, past, nextOf}
 use Rattle.philox.specs.declared.x8.Philox4x32X8.{Philox4x32X8}
-use Rattle.saved.specs.philox4x32.Claims.{Words, settled}
+use Rattle.saved.specs.philox4x32.Claims.{Words}
 use Rattle.saved.specs.philox4x32.Form.{layout, ofFields, loaded}
 use Rattle.saved.proofs.philox4x32.Form.{zeros-below, load-accepted}
 
@@ -69,29 +69,42 @@ pub words-fresh : (seed stream : ℕ) → seed < 2 ^ 64 → stream < 2 ^ 64 → 
 unfolding fresh
 words-fresh seed stream h t =
     let k = halves-lt seed h in
-    record { two = refl; key = key-words _ _ (k .0) (k .1); stream = t; counter = lit< tt; eight = refl; pending = zeros-below }
+    record {
+      two = refl;
+      key = key-words _ _ (k .0)
+          (k .1);
+      stream = t;
+      counter = lit< tt;
+      eight = refl;
+      pending = zeros-below;
+      first = lit< tt;
+    }
 
 pub words-sought : (g : Philox4x32X8) (n : ℕ) → n < 2 ^ 64 → Words g → Words (sought g n)
 unfolding sought
-words-sought g n h w = record { two = w .two; key = w .key; stream = w .stream; counter = h; eight = refl; pending = zeros-below }
+words-sought g n h w =
+    record { two = w .two; key = w .key; stream = w .stream; counter = h; eight = refl; pending = zeros-below; first = lit< tt }
 
-words-holding : (g : Philox4x32X8) (n m : ℕ) → n < 2 ^ 64 → Words g → Words (holding g n m)
+words-holding : (g : Philox4x32X8) (n m : ℕ) → n < 2 ^ 64 → m < 2 ^ 64 → Words g → Words (holding g n m)
 unfolding holding upperAt
-words-holding g n m h w =
+words-holding g n m h l w =
     record {
       two = w .two;
       key = w .key;
       stream = w .stream;
       counter = h;
       eight = length-table 8 _;
-      pending = table-below (2 ^ 64) 8 (λ i. blockAt g (m + i) .w2 + 2 ^ 32 * blockAt g (m + i) .w3) (pow-pos 64) (λ i l. join (small-block g w (m + i)));
+      pending = table-below (2 ^ 64) 8 (λ i. blockAt g (m + i) .w2 + 2 ^ 32 * blockAt g (m + i) .w3) (pow-pos 64)
+          (λ i _. join (small-block g w (m + i)));
+      first = l;
     }
   where
     join : {q : Quad} → Word32s q → q .w2 + 2 ^ 32 * q .w3 < 2 ^ 64
     join k = omega arith
 
 -- a draw's generator is the one or the other
-next-cases : (P : Philox4x32X8 → Type 0) (g : Philox4x32X8) → P (sought g (g .counter)) → P (holding g (past (g .counter)) (g .counter)) → P (nextOf g)
+pub next-cases : (P : Philox4x32X8 → Type 0) (g : Philox4x32X8) → P (sought g (g .counter)) → P (holding g (past (g .counter)) (g .counter))
+    → P (nextOf g)
 unfolding nextOf
 next-cases P g p q = go (g .waiting)
   where
@@ -101,7 +114,8 @@ next-cases P g p q = go (g .waiting)
 
 pub words-next : (g : Philox4x32X8) → Words g → Words (nextOf g)
 words-next g w =
-    next-cases Words g (words-sought g (g .counter) (w .counter) w) (words-holding g (past (g .counter)) (g .counter) (mod-lt _ (pow-pos 64)) w)
+    next-cases Words g (words-sought g (g .counter) (w .counter) w) (words-holding g (past (g .counter)) (g .counter)
+    (mod-lt _ (pow-pos 64)) (w .counter) w)
 
 -- a field's width bounds it
 pub words-loaded : (s : List ℕ) → Bytes s → loaded s .refusal ≡ 0 → Words (loaded s .rng)
@@ -111,7 +125,7 @@ words-loaded s b ok = rw (load-accepted s ok .holds) words
     below = field-below layout 0 s b
 
     width : (i : ℕ) → i < 8 → getD layout (5 + i) 0 ≡ 8
-    width i l = getD-append-add (4 ∷ 4 ∷ 8 ∷ 8 ∷ 8 ∷ []) (replicate 8 8) i 0 ∙ getD-replicate {A = ℕ} 8 i 8 0 l
+    width i l = getD-append-add (4 ∷ 4 ∷ 8 ∷ 8 ∷ 8 ∷ []) (replicate 9 8) i 0 ∙ getD-replicate {A = ℕ} 9 i 8 0 (omega arith)
 
     words : Words (ofFields (fields layout s))
     words =
@@ -122,17 +136,5 @@ words-loaded s b ok = rw (load-accepted s ok .holds) words
           counter = below 3;
           eight = length-table 8 _;
           pending = table-below (2 ^ 64) 8 (λ i. getD (fields layout s) (5 + i) 0) (pow-pos 64) (λ i l. rw (width i l) at (below (5 + i)));
+          first = below 13;
         }
-
--- ---- words that don't wait are zero
-pub settled-sought : (g : Philox4x32X8) (n : ℕ) → settled (sought g n) ≡ sought g n
-unfolding sought
-settled-sought g n = refl
-
-pub settled-fresh : (seed stream : ℕ) → settled (fresh seed stream) ≡ fresh seed stream
-unfolding fresh sought
-settled-fresh seed stream = refl
-
-pub settled-next : (g : Philox4x32X8) → settled (nextOf g) ≡ nextOf g
-unfolding holding
-settled-next g = next-cases (λ x. settled x ≡ x) g (settled-sought g (g .counter)) refl

@@ -15,12 +15,11 @@ use Rattle.base.specs.Stored.{stored}
 use Rattle.base.specs.Table.{table}
 use Rattle.base.proofs.Bytes.{flat-append, flat-length, length-leBytes}
 use Rattle.base.proofs.Quad.{column-rowsOf}
-use Rattle.base.proofs.Stored.{stored-two}
+use Rattle.base.proofs.Stored.{stored-two, stored-whole}
 use Rattle.base.proofs.Table.{table-getD}
 use Rattle.saved.specs.fields.Fields.{laidOut, fieldsAt, fields}
 use Rattle.saved.proofs.fields.Bounds.{table-below, append-below, fits-run}
 use Rattle.saved.proofs.fields.Fields.{Bytes, Fits, laid-run, field-run, length-laid, fields-laid, laid-fields}
-use Rattle.saved.proofs.fields.Saved.{stored-all}
 use Rattle.saved.proofs.fields.Tests.{all-pass, one-fails, each-passes}
 use Rattle.xoshiro.specs.scalar.Calls.{stateOf}
 use Rattle.xoshiro_steps.specs.Xoshiro256pp.{allZero}
@@ -69,7 +68,7 @@ rows-stored g l e {l1} {l2} {l3} {out} (e1, n0) (e2, n1) (e3, n2) (e4, n3) =
     let ab : l2 ≡ stored l 0 (A ++ B) = stored-two l 0 A B e1 (ap (λ (k : ℕ). 0 + k) la) e2 in
     let abc : l3 ≡ stored l 0 (A ++ B ++ C) = stored-two l 0 (A ++ B) C ab (ap (λ (k : ℕ). 0 + k) lab) e3 in
     let abcd : out ≡ stored l 0 (A ++ B ++ C ++ D) = stored-two l 0 (A ++ B ++ C) D abc (ap (λ (k : ℕ). 0 + k) labc) e4 in
-    abcd ∙ ap (stored l 0) (form-rows g w) ∙ stored-all l (formOf g) (e ∙ sym (form-length g))
+    abcd ∙ ap (stored l 0) (form-rows g w) ∙ stored-whole l (formOf g) (e ∙ sym (form-length g))
 
 -- ---- read: field k stands 8 k bytes on
 field : (s : List ℕ) (k at : ℕ) → k < 32 → at ≡ k * 8 → {x : ℕ} → x ≡ leNat (take 8 (drop at s)) → x ≡ getD (fields layout s) k 0

@@ -7,16 +7,16 @@ use Rattle.clients.proofs.philox4x32.simulate.Statement.{statement}
 use Rattle.clients.proofs.philox4x32.simulate.Tie as tie
 
 -- the draws and one more fit a word
-add-t20 : tie.Need-add-t20
-add-t20 c =
-    let b = c .before .before .before .before .before .before .before in
+add-t21 : tie.Need-add-t21
+add-t21 c =
+    let b = c .before .before .before .before .before .before .before .before in
     let s = b .before .before .before .before .before .before .before .before .before .before .before in
-    omega (arith, few-made (b .fill-bytes .ensures) (s .good .1 .1 .1 .1 .1 .0 .0))
+    omega (arith, few-made (b .fill-bytes .ensures .0) (s .good .1 .1 .1 .1 .1 .0 .0))
 
 -- what the five contracts say, the first call first
 returns : tie.Need-returns
 returns c =
-    let d = c .before .before .before in
+    let d = c .before .before .before .before in
     let b = d .before .before .before .before in
     let k = b .before .before in
     let f = k .before .before .before .before in
@@ -33,7 +33,7 @@ simulate-spec =
     (λ c κs. search needs)
     (λ c κs. search needs)
     (λ c κs. search needs)
-    add-t20
+    add-t21
     (λ c. search needs)
     (λ c. search needs)
     returns)

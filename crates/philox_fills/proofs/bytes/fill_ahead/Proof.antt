@@ -33,7 +33,7 @@ loop-again c =
     let a = ahead (l .before .before .args .kind) n (d .draws-ahead .result) (d .draws-ahead .ensures .0) in
     let few : min 16 (d .draws-ahead .result) ≡ d .draws-ahead .result = omega (arith, a .few) in
     let v = l .loop .inv in
-    let D = f .fill-buffer .ensures in
+    let D = f .fill-buffer .ensures .0 in
     let all = few ∙ d .draws-ahead .ensures .0 in
     let F = more-buffered (groupsAhead K n) (v .1) D (omega (arith, v .0)) all (omega (arith, a .room, v .1 .same))
     (m .map-bytes .ensures) in

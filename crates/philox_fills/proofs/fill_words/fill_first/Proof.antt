@@ -11,7 +11,7 @@ returns : tie.Need-returns
 returns c =
     let f = c .before .before in
     let a = f .before .before .before .args in
-    drawn-filled (a .b .now) (a .m * 8) (a .m) (f .fill-u64 .ensures) refl (search needs)
+    (drawn-filled (a .b .now) (a .m * 8) (a .m) (f .fill-u64 .ensures .0) refl (search needs), f .fill-u64 .ensures .1)
 
 pub fill-first-spec : {M : Type 1} → statement M
 fill-first-spec = tie.close (tie.spec (λ c. search needs) (λ c. search needs) (λ c. sym (length-take-le _ _ (search needs))) (λ c κs. search needs) (λ c. search needs) returns)

@@ -26,7 +26,7 @@ loop-again c =
     let f = m .before .before .before in
     let q = f .before .before in
     let l = q .before .before .loop .inv in
-    let D = f .fill-buffer .ensures in
+    let D = f .fill-buffer .ensures .0 in
     let stores = m .map-u32 .ensures ∙ ap (storedGroups u32s _ _ _) (sym (q .groups-of .ensures)) in
     (drawn-long D ∙ l .0, more-buffered (q .groups-of .result) (l .1) D (omega (arith, l .0)) (omega arith) (search needs) stores)
 

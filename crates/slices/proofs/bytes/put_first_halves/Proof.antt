@@ -17,7 +17,8 @@ returns c =
     let w = p .before .before .before .before in
     let a = w .before .before .before .args in
     let n = flat-length (leBytes 4) 4 (length-leBytes 4) (a .lo ++ a .hi) in
-    p .put-part .ensures ∙ ap (stored _ _) (w .whole-halves .ensures ∙ stored-whole _ _ (omega (arith, length-append (a .lo) (a .hi))))
+    p .put-bytes .ensures ∙ ap (stored _ _) (w .whole-halves .ensures ∙ stored-whole _ _ (omega (arith, length-append (a .lo) (a .hi))))
 
 pub put-first-halves-spec : {M : Type 1} → statement M
-put-first-halves-spec = tie.close (tie.spec (λ c. search needs) (λ c κs. search needs) (λ c κs. search needs) (λ c. search needs) returns)
+put-first-halves-spec = tie.close (tie.spec (λ c. search needs) (λ c κs. search needs) (λ c. search needs) (λ c κs. search needs)
+    (λ c. search needs) returns)

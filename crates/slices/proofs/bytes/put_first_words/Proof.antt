@@ -15,7 +15,8 @@ returns c =
     let w = p .before .before .before .before in
     let v = w .before .before .before .args .v in
     let n = flat-length (leBytes 8) 8 (length-leBytes 8) v in
-    p .put-part .ensures ∙ ap (stored _ _) (w .put-whole .ensures ∙ stored-whole _ _ (omega arith))
+    p .put-bytes .ensures ∙ ap (stored _ _) (w .put-whole .ensures ∙ stored-whole _ _ (omega arith))
 
 pub put-first-words-spec : {M : Type 1} → statement M
-put-first-words-spec = tie.close (tie.spec (λ c. search needs) (λ c κs. search needs) (λ c κs. search needs) (λ c. search needs) returns)
+put-first-words-spec = tie.close (tie.spec (λ c. search needs) (λ c κs. search needs) (λ c. search needs) (λ c κs. search needs)
+    (λ c. search needs) returns)

@@ -1,0 +1,2 @@
+-- What a fill promises with its label.
+pub mod Labelled
