@@ -105,13 +105,13 @@ pub record PhiloxRefusals : Type 0 where
       → Answers answer 0 (wrongLengths 104 form 96 old ∷ wrongMark form ∷ wrongGroup form ∷ [])
 
 -- the first block that an accepted form's label has: the number where words wait, the counter where none do
-pub record LabelTells (form : List ℕ) (first : ℕ) (answer : ℤ) (first′ : ℕ) : Type 0 where
+pub record LabelTells (form : List ℕ) (answer : ℤ) (first′ : ℕ) : Type 0 where
   pub upper : answer ≡ pos 1 → first′ ≡ numberIn (fields philox-form.layout form)
   pub lower : answer ≡ pos 0 → first′ ≡ counterIn (fields philox-form.layout form)
 
 abbrev pub LabelFirst : Type 0
 LabelFirst = (form : List ℕ) (first : ℕ) (answer : ℤ) (first′ : ℕ) → philox.Labelled form first answer first′
-    → LabelTells form first answer first′
+    → LabelTells form answer first′
 
 -- an old form that was moved, and is moved back, has its old bytes
 abbrev pub MovedBack : Type 0

@@ -61,7 +61,8 @@ unfolding drawn sought holding
 sound-next g s =
     record {
       words = words-next g (s .words);
-      rest = next-cases (λ x. x .waiting ≡ false → (x .pending ≡ none8) × (x .first ≡ 0)) g (λ w. (refl, refl)) (λ w. absurd (true≢false w));
+      rest =
+          next-cases (λ x. x .waiting ≡ false → (x .pending ≡ none8) × (x .first ≡ 0)) g (λ w. (refl, refl)) (λ w. absurd (true≢false w));
       numbered = keeps-number .draw g (s .numbered);
     }
 
@@ -95,6 +96,7 @@ sound-loaded s b ok = record { words = words-loaded s b ok; rest = rest; numbere
         let a = load-accepted s ok in
         let e : eqb (markIn f) 1 ≡ false = sym (ap (λ (g : Philox4x32X8). g .waiting) (a .holds)) ∙ w in
         let k = mark-saved (markIn f) (λ i. getD f (5 + i) 0) (numberIn f) (a .form) in (
-          ap (λ (g : Philox4x32X8). g .pending) (a .holds) ∙ sym (k .words) ∙ ap (λ (b : Bool). cond b (table 8 (λ i. getD f (5 + i) 0)) none8) e,
+          ap (λ (g : Philox4x32X8). g .pending) (a .holds) ∙ sym (k .words)
+              ∙ ap (λ (b : Bool). cond b (table 8 (λ i. getD f (5 + i) 0)) none8) e,
           ap (λ (g : Philox4x32X8). g .first) (a .holds) ∙ sym (k .number) ∙ ap (λ (b : Bool). cond b (numberIn f) 0) e,
         )
