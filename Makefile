@@ -13,7 +13,7 @@ RUST_SRC ?= ../shared/docs/src
 PREFIX = /usr/local
 DESTDIR =
 
-VERSION = 0.2.0
+VERSION = 0.3.0
 # Programs that were linked with the shared object ask for it by this name. It changes when a call changes.
 SONAME = libgirderpeach.so.1
 

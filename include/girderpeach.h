@@ -38,12 +38,14 @@
 #define GP_F64 4        /* 8 bytes, groups of 8, 1 draw a group: uniform in [0, 1) */
 #define GP_NORMAL_F32 5 /* 4 bytes, groups of 16, 1 draw a group: standard normal */
 #define GP_NORMAL_F64 6 /* 8 bytes, groups of 16, 2 draws a group: standard normal */
+#define GP_OPEN01_F32 7 /* 4 bytes, groups of 16, 1 draw a group: uniform in (0, 1), never 0 and never 1: an odd number over 2^24 */
+#define GP_OPEN01_F64 8 /* 8 bytes, groups of 8, 1 draw a group: uniform in (0, 1), never 0 and never 1: an odd number over 2^53 */
 
 /* Refusals. A form of 256 or 104 bytes that these calls wrote, handed back whole and unchanged, is not refused. */
 #define GP_REFUSED_FORM_LENGTH 1 /* form_len is not 256 (xoshiro) or 104 (Philox); in a move also: old_len is not 96 */
 #define GP_REFUSED_MARK 2        /* a Philox form's mark is neither 0 nor 1, or it is 0 and a waiting byte or the number is not zero */
 #define GP_REFUSED_ZERO_LANE 3   /* some lane of an xoshiro form has four zero words */
-#define GP_REFUSED_KIND 4        /* the kind is none of the six */
+#define GP_REFUSED_KIND 4        /* the kind is none of the eight */
 #define GP_REFUSED_OUT_LENGTH 5  /* out_len is not a multiple of the kind's bytes */
 #define GP_REFUSED_GROUP 14      /* the waiting words of a Philox form are not the upper words of the group with its number */
 

@@ -6,9 +6,9 @@
 int main(int argc, char **argv)
 {
     const char *kind = argc > 1 ? argv[1] : "";
-    const char *names[] = {"u64", "u32", "f32", "f64", "normal_f32", "normal_f64"};
+    const char *names[] = {"u64", "u32", "f32", "f64", "normal_f32", "normal_f64", "open01_f32", "open01_f64"};
     int number = 0;
-    for (int i = 0; i < 6; i++)
+    for (int i = 0; i < 8; i++)
         if (!strcmp(kind, names[i]) || (kind[0] == '1' + i && !kind[1]))
             number = i + 1;
     uint64_t wide;
@@ -26,11 +26,13 @@ int main(int argc, char **argv)
         return 0;
     case 3:
     case 5:
+    case 7:
         while (fread(&y, sizeof y, 1, stdin))
             printf("%a\n", (double)y);
         return 0;
     case 4:
     case 6:
+    case 8:
         while (fread(&x, sizeof x, 1, stdin))
             printf("%a\n", x);
         return 0;

@@ -175,16 +175,19 @@ struct engine {
 static const struct engine xoshiro = {"gp_xoshiro_fill", 256, xoshiro_fault, gp_xoshiro_fill, gp_xoshiro_skip};
 static const struct engine philox = {"gp_philox_fill", 104, philox_fault, gp_philox_fill, gp_philox_skip};
 
-/* Of kinds 1 to 6: bytes of an element, elements of a group, draws of a group. */
+/* Of kinds 1 to 8: bytes of an element, elements of a group, draws of a group. */
+#define LAST_KIND 8
 static const struct {
     size_t width, places;
     int64_t draws;
-} kinds[7] = {{0, 0, 0}, {8, 8, 1}, {4, 16, 1}, {4, 16, 1}, {8, 8, 1}, {4, 16, 1}, {8, 16, 2}};
+} kinds[LAST_KIND + 1] = {{0, 0, 0}, {8, 8, 1}, {4, 16, 1}, {4, 16, 1}, {8, 8, 1}, {4, 16, 1}, {8, 16, 2}, {4, 16, 1}, {8, 8, 1}};
+
+static int is_kind(uint64_t kind) { return kind >= 1 && kind <= LAST_KIND; }
 
 /* A wrong group, 14, is answered after a kind or a length. */
 static int64_t fill_answer(int form_fault, uint64_t kind, size_t out_len) {
     if (form_fault && form_fault != 14) return -form_fault;
-    if (kind < 1 || kind > 6) return -4;
+    if (!is_kind(kind)) return -4;
     if (out_len % kinds[kind].width) return -5;
     if (form_fault) return -form_fault;
     size_t places = out_len / kinds[kind].width;
@@ -194,9 +197,9 @@ static int64_t fill_answer(int form_fault, uint64_t kind, size_t out_len) {
 /* The header's names stand for the scope document's numbers, which the tests below write out. */
 static void names(void) {
     static const int named[] = {GP_XOSHIRO_FORM, GP_PHILOX_FORM, GP_PHILOX_FORM_96, GP_U64, GP_U32, GP_F32, GP_F64, GP_NORMAL_F32,
-                                GP_NORMAL_F64, GP_REFUSED_FORM_LENGTH, GP_REFUSED_MARK, GP_REFUSED_ZERO_LANE, GP_REFUSED_KIND,
-                                GP_REFUSED_OUT_LENGTH, GP_REFUSED_GROUP};
-    static const int numbers[] = {256, 104, 96, 1, 2, 3, 4, 5, 6, 1, 2, 3, 4, 5, 14};
+                                GP_NORMAL_F64, GP_OPEN01_F32, GP_OPEN01_F64, GP_REFUSED_FORM_LENGTH, GP_REFUSED_MARK, GP_REFUSED_ZERO_LANE,
+                                GP_REFUSED_KIND, GP_REFUSED_OUT_LENGTH, GP_REFUSED_GROUP};
+    static const int numbers[] = {256, 104, 96, 1, 2, 3, 4, 5, 6, 7, 8, 1, 2, 3, 4, 5, 14};
     struct call c = {"the header", 0, 0, 0};
     for (; c.a < sizeof numbers / sizeof *numbers; c.a++) expect(&c, "name", (uint64_t)named[c.a], (uint64_t)numbers[c.a]);
 }
@@ -384,15 +387,18 @@ static void faults_together(void) {
         if (damaged) p[24] = 2;
         if (group) p[32 + noise() % 72] ^= 4;
         int later = kind ? 4 : out ? 5 : 14;
+        uint64_t any = 1 + noise() % LAST_KIND;
         /* 17 bytes are whole elements of no kind */
-        try_fill(&philox, p, length ? 105 : 104, kind ? 0 : 2, out ? 17 : 16, length ? -1 : damaged ? -2 : -later, NULL, NULL);
+        try_fill(&philox, p, length ? 105 : 104, kind ? 0 : any, out ? 17 : 16, length ? -1 : damaged ? -2 : -later, NULL, NULL);
         if (group) continue;
-        try_fill(&xoshiro, x, length ? 255 : 256, kind ? 7 : 6, out ? 17 : 16, length ? -1 : damaged ? -3 : -later, NULL, NULL);
+        try_fill(&xoshiro, x, length ? 255 : 256, kind ? LAST_KIND + 1 : any, out ? 17 : 16, length ? -1 : damaged ? -3 : -later, NULL,
+                 NULL);
     }
 }
 
 static void every_kind_and_length(const struct engine *e, const uint8_t *form, size_t form_len) {
-    static const uint64_t numbers[] = {0, 1, 2, 3, 4, 5, 6, 7, 8, 255, 257, 262, 65537, ((uint64_t)1 << 32) + 1, (uint64_t)1 << 63, UINT64_MAX};
+    static const uint64_t numbers[] = {0, 1, 2, 3, 4, 5, 6, 7, 8, 9, 10, 255, 257, 262, 264, 65537, ((uint64_t)1 << 32) + 1,
+                                       ((uint64_t)1 << 32) + 8, (uint64_t)1 << 63, UINT64_MAX};
     int fault = e->fault(form, form_len);
     for (size_t k = 0; k < sizeof numbers / sizeof *numbers; k++) {
         for (size_t out_len = 0; out_len <= 272; out_len += tight && out_len > 16 ? 15 : 1)
@@ -559,7 +565,7 @@ static void replay(const struct line *l, const struct engine **e, uint8_t *form)
         try_skip(*e, before, (*e)->length, l->a, form);
     } else if (!strcmp(l->call, "seek")) {
         try_seek(before, 104, l->a, form);
-    } else if (!strcmp(l->call, "fill") && l->a >= 1 && l->a <= 6) {
+    } else if (!strcmp(l->call, "fill") && is_kind(l->a)) {
         out_len = l->b * kinds[l->a].width;
         out = malloc(out_len + 1);
         try_fill(*e, before, (*e)->length, l->a, out_len, l->answer, out, form);
@@ -599,8 +605,8 @@ static void nulls(void) {
     uint64_t jumps = 12345;
     put_xoshiro(form);
     memcpy(before, form, 256);
-    for (uint64_t kind = 0; kind <= 7; kind++) {
-        uint64_t accepted = kind >= 1 && kind <= 6 ? 0 : (uint64_t)-4;
+    for (uint64_t kind = 0; kind <= LAST_KIND + 1; kind++) {
+        uint64_t accepted = is_kind(kind) ? 0 : (uint64_t)-4;
         expect(&c, "fill of no bytes", (uint64_t)gp_xoshiro_fill(form, 256, kind, NULL, 0), accepted);
         expect(&c, "fill of a null form", (uint64_t)gp_xoshiro_fill(NULL, 0, kind, NULL, 0), (uint64_t)-1);
         expect(&c, "fill of a null form, Philox", (uint64_t)gp_philox_fill(NULL, 0, kind, NULL, 0), (uint64_t)-1);
@@ -608,7 +614,7 @@ static void nulls(void) {
     expect(&c, "form", (uint64_t)same(form, before, 256), 1);
     put_philox(form, 1, 1);
     memcpy(before, form, 104);
-    for (uint64_t kind = 1; kind <= 6; kind++)
+    for (uint64_t kind = 1; kind <= LAST_KIND; kind++)
         expect(&c, "fill of no bytes, Philox", (uint64_t)gp_philox_fill(form, 104, kind, NULL, 0), 0);
     expect(&c, "gp_philox_to_96 to null", (uint64_t)gp_philox_to_96(form, 104, NULL, 0), (uint64_t)-1);
     expect(&c, "gp_philox_to_96 of null", (uint64_t)gp_philox_to_96(NULL, 0, form, 96), (uint64_t)-1);

@@ -2,7 +2,8 @@
 
 Words, unit floats, draws and forms are held to models of both engines, written here and in tests/xoshiro256pp.py from the published
 definitions (Blackman and Vigna; Salmon et al. 2011), the scope document and the customers' changes to it; normals to the Box-Muller
-formula, within rounding; and all of it, bit for bit, to the Rust's answers in EXPECTED (tests/host/expected.txt)."""
+formula, within rounding; and all of it, bit for bit, to the Rust's answers in EXPECTED (tests/host/expected.txt). Units that are never 0
+are made in integers."""
 import ctypes
 import functools
 import itertools
@@ -18,9 +19,9 @@ from xoshiro256pp import JUMP_STEPS, M64, as_number, lanes_of, power, seeded, se
 
 M32 = 2**32 - 1
 JUMP = (0x180EC6D33CFD0ABA, 0xD5A61266F0C9392C, 0xA9582618E03FC9AA, 0x39ABDC4529B1661C)
-# of kinds 1 to 6: bytes of an element, elements of a group, draws of a group
-KINDS = {1: (8, 8, 1), 2: (4, 16, 1), 3: (4, 16, 1), 4: (8, 8, 1), 5: (4, 16, 1), 6: (8, 16, 2)}
-NO_KIND = (0, 7, 8, 255, 257, 262, 2**32 + 1, 2**63, M64)
+# of kinds 1 to 8: bytes of an element, elements of a group, draws of a group
+KINDS = {1: (8, 8, 1), 2: (4, 16, 1), 3: (4, 16, 1), 4: (8, 8, 1), 5: (4, 16, 1), 6: (8, 16, 2), 7: (4, 16, 1), 8: (8, 8, 1)}
+NO_KIND = (0, 9, 10, 255, 257, 262, 264, 2**32 + 1, 2**32 + 8, 2**63, M64)
 chance = random.Random(20260102)
 checks = failures = 0
 
@@ -222,8 +223,14 @@ def halves(words):
     return [w & M32 for w in words] + [w >> 32 for w in words]
 
 
+def pattern(n, scale, digits, bias):
+    """The pattern of n / 2 ** scale, a normal number below 1. Its leading one is the highest bit of n, and so many digits follow it."""
+    top = n.bit_length() - 1
+    return (bias + top - scale << digits) + (n - 2**top << digits - top)
+
+
 def group(kind, draw):
-    """The elements of a group, from draws."""
+    """The elements of a group, from draws. Of kinds 7 and 8 their patterns."""
     if kind == 1:
         return draw()
     if kind == 2:
@@ -232,6 +239,10 @@ def group(kind, draw):
         return [(h >> 8) / 2**24 for h in halves(draw())]
     if kind == 4:
         return [(w >> 12) / 2**52 for w in draw()]
+    if kind == 7:
+        return [pattern(2 * (h >> 9) + 1, 24, 23, 127) for h in halves(draw())]
+    if kind == 8:
+        return [pattern(2 * (w >> 12) + 1, 53, 52, 1023) for w in draw()]
     if kind == 5:
         h = halves(draw())
         pairs = [((h[i] >> 8) / 2**24, (h[8 + i] >> 8) / 2**24) for i in range(8)]
@@ -252,8 +263,8 @@ def model_fill(model, kind, places):
 
 def held_to(kind, found, elements, what):
     """Bytes against model numbers: exact but for normals, where the library's own formulas are a few last places off."""
-    code = {1: "Q", 2: "I", 3: "f", 4: "d", 5: "f", 6: "d"}[kind]
-    if kind <= 4:
+    code = {1: "Q", 2: "I", 3: "f", 4: "d", 5: "f", 6: "d", 7: "I", 8: "Q"}[kind]
+    if kind not in (5, 6):
         expect(what, found, struct.pack(f"<{len(elements)}{code}", *elements))
     else:
         off = max((abs(x - y) for x, y in zip(struct.unpack(f"<{len(elements)}{code}", found), elements)), default=0.0)
@@ -537,7 +548,7 @@ def distances(host):
         block = chance.randrange(8)
         j, d, form = 8 * block, 0, host.xoshiro_new(seed, block, bytes(256))[2]
         for _ in range(6):
-            n, kind, groups = chance.randrange(4), chance.choice((1, 2, 3, 4, 5, 6)), chance.randrange(50)
+            n, kind, groups = chance.randrange(4), chance.choice(tuple(KINDS)), chance.randrange(50)
             width, places, draws = KINDS[kind]
             form = host.fill(Xoshiro, form, kind, bytes(groups * places * width))[1]
             form = host.jump_blocks(form, n)[2]
@@ -575,7 +586,7 @@ def lists(host, engine, count):
     for _ in range(count):
         form = good_form(engine)
         for _ in range(12):
-            kind = chance.choice((1, 2, 3, 4, 5, 6))
+            kind = chance.choice(tuple(KINDS))
             length = KINDS[kind][0] * chance.choice((0, 1, chance.randrange(40), 16 * chance.randrange(8), chance.randrange(300)))
             choice = chance.randrange(12)
             if choice < 8:
@@ -743,7 +754,7 @@ def old_callers(edge):
     for mark in (0, 1) * 3:
         form = philox_form(mark, 0)
         old, out = form[:96], chance.randbytes(64)
-        for kind in (*KINDS, 0, 7):
+        for kind in (*KINDS, 0, 9):
             expect("fill, 96 bytes", edge.fill(Philox, old, kind, out), (-1, old, out))
         expect("philox_new, 96 bytes", edge.philox_new(1, 2, old), (-1, UNTOUCHED, old))
         expect("seek, 96 bytes", edge.seek(old, 8), (-1, UNTOUCHED, old))
@@ -762,7 +773,7 @@ def old_callers(edge):
 
 def refusals(host, engine):
     for form in damaged(engine):
-        kind = chance.choice((1, 2, 3, 4, 5, 6) + NO_KIND)
+        kind = chance.choice((*KINDS, *NO_KIND))
         try_fill(host, engine, form, kind, chance.choice((0, 4, 8, 64, 65, 66)))
         if engine is Philox:
             told(host, form)

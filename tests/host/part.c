@@ -36,7 +36,7 @@ static void start(uint64_t seed, uint64_t place) {
 }
 
 static void fill(uint64_t kind, size_t places, FILE *file) {
-    size_t length = places * (kind == GP_U64 || kind == GP_F64 || kind == GP_NORMAL_F64 ? 8 : 4);
+    size_t length = places * (kind == GP_U64 || kind == GP_F64 || kind == GP_NORMAL_F64 || kind == GP_OPEN01_F64 ? 8 : 4);
     uint8_t *out = malloc(length + 1);
     if (!out) stop("no memory");
     if ((is_philox ? gp_philox_fill : gp_xoshiro_fill)(form, form_len, kind, out, length) < 0) stop("a fill was refused");

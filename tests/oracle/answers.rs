@@ -93,10 +93,10 @@ fn patterns(out: &[u8], width: usize) -> impl Iterator<Item = u64> + '_ {
     out.chunks(width).map(|element| element.iter().rev().fold(0, |x, byte| x << 8 | u64::from(*byte)))
 }
 
-/// Fills of every kind, typed and then by bytes, and the draw after them.
+/// Fills of the six kinds that the Rust has, typed and then by bytes, and the draw after them.
 fn fills<R: Rng8>(mut rng: R) {
     for n in [21, 1100] {
-        for kind in &KINDS {
+        for kind in &KINDS[..6] {
             let (draws, out) = filled(&mut rng, kind.number, n);
             println!("{draws}");
             if n < 64 {
@@ -105,7 +105,7 @@ fn fills<R: Rng8>(mut rng: R) {
             println!("{:016x}", digest(patterns(&out, kind.width)));
         }
     }
-    for kind in &KINDS {
+    for kind in &KINDS[..6] {
         for bytes in [168, 8800] {
             let (draws, out) = filled(&mut rng, kind.number, bytes / kind.width);
             println!("{draws}");

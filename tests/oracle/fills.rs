@@ -1,11 +1,11 @@
 //! Our engines and their fills, linked as static libraries, against the Rust's: the same calls on both sides, and after each of them the
 //! same bits in the lent buffer and around it, the same words handed out, and the same generator. The Rust counts neither draws nor jumps
-//! nor steps nor draws left, labels nothing and refuses nothing: those numbers are the customers'. The argument is how many lists of mixed
-//! calls each engine gets, and how many random states are jumped from.
+//! nor steps nor draws left, labels nothing and refuses nothing: those numbers are the customers'. Nor has it kinds 7 and 8: forms.rs makes
+//! them of its words. The argument is how many lists of mixed calls each engine gets, and how many random states are jumped from.
 mod common;
 mod forms;
 use common::{Count, Random};
-use forms::{kind, walked, Kind, Numbered, KINDS, STEPS};
+use forms::{fill_open01_f32, fill_open01_f64, kind, walked, Kind, Numbered, KINDS, STEPS, UNKNOWN};
 use tpt_simd_rng::{Rng8, Xoshiro256pp, Xoshiro256ppX8};
 
 /// An element from any bits, and its bytes.
@@ -61,7 +61,9 @@ fn expected<R: Rng8>(rust: &mut R, kind: u64, n: usize) -> Vec<u8> {
         3 => lent(n, |out| rust.fill_f32(out)).0,
         4 => lent(n, |out| rust.fill_f64(out)).0,
         5 => lent(n, |out| rust.fill_normal_f32(out)).0,
-        _ => lent(n, |out| rust.fill_normal_f64(out)).0,
+        6 => lent(n, |out| rust.fill_normal_f64(out)).0,
+        7 => lent(n, |out| fill_open01_f32(rust, out)).0,
+        _ => lent(n, |out| fill_open01_f64(rust, out)).0,
     }
 }
 
@@ -168,6 +170,8 @@ extern "C" {
     fn oracle_xoshiro_fill_f64(s: &mut Rows, out: *mut f64, n: usize) -> u64;
     fn oracle_xoshiro_fill_normal_f32(s: &mut Rows, out: *mut f32, n: usize) -> u64;
     fn oracle_xoshiro_fill_normal_f64(s: &mut Rows, out: *mut f64, n: usize) -> u64;
+    fn oracle_xoshiro_fill_open01_f32(s: &mut Rows, out: *mut f32, n: usize) -> u64;
+    fn oracle_xoshiro_fill_open01_f64(s: &mut Rows, out: *mut f64, n: usize) -> u64;
     fn oracle_xoshiro_fill_bytes(s: &mut Rows, kind: u64, out: *mut u8, n: usize, draws: &mut u64) -> u64;
 }
 
@@ -213,7 +217,9 @@ impl Engine for Xoshiro {
             3 => ours!(oracle_xoshiro_fill_f32, n, s),
             4 => ours!(oracle_xoshiro_fill_f64, n, s),
             5 => ours!(oracle_xoshiro_fill_normal_f32, n, s),
-            _ => ours!(oracle_xoshiro_fill_normal_f64, n, s),
+            6 => ours!(oracle_xoshiro_fill_normal_f64, n, s),
+            7 => ours!(oracle_xoshiro_fill_open01_f32, n, s),
+            _ => ours!(oracle_xoshiro_fill_open01_f64, n, s),
         };
         (bytes, (draws, ()))
     }
@@ -289,6 +295,8 @@ philox! {
     oracle_philox_fill_f64(from: &mut u64, upper: &mut bool, out: *mut f64, n: usize) -> u64;
     oracle_philox_fill_normal_f32(from: &mut u64, upper: &mut bool, out: *mut f32, n: usize) -> u64;
     oracle_philox_fill_normal_f64(from: &mut u64, upper: &mut bool, out: *mut f64, n: usize) -> u64;
+    oracle_philox_fill_open01_f32(from: &mut u64, upper: &mut bool, out: *mut f32, n: usize) -> u64;
+    oracle_philox_fill_open01_f64(from: &mut u64, upper: &mut bool, out: *mut f64, n: usize) -> u64;
     oracle_philox_fill_bytes(from: &mut u64, upper: &mut bool, kind: u64, out: *mut u8, n: usize, draws: &mut u64) -> u64;
 }
 
@@ -376,7 +384,9 @@ impl Engine for Philox {
             3 => labelled!(oracle_philox_fill_f32, n, ours),
             4 => labelled!(oracle_philox_fill_f64, n, ours),
             5 => labelled!(oracle_philox_fill_normal_f32, n, ours),
-            _ => labelled!(oracle_philox_fill_normal_f64, n, ours),
+            6 => labelled!(oracle_philox_fill_normal_f64, n, ours),
+            7 => labelled!(oracle_philox_fill_open01_f32, n, ours),
+            _ => labelled!(oracle_philox_fill_open01_f64, n, ours),
         }
     }
     fn fill_bytes(&mut self, kind: u64, n: usize) -> (Vec<u8>, (u64, u64, (u64, bool))) {
@@ -478,8 +488,6 @@ fn every_length<E: Engine>(name: &str, call: impl Fn(&mut E, usize, &mut Count))
     count.report(&format!("{} {name}", E::NAME))
 }
 
-const UNKNOWN: [u64; 8] = [0, 7, 8, 255, 257, (1 << 32) + 1, 1 << 63, u64::MAX];
-
 /// Every small number of bytes for every kind, which some refuse, and for what is no kind.
 fn refusals<E: Engine>() -> u64 {
     let mut count = Count::default();
@@ -507,7 +515,7 @@ fn list<E: Engine>(random: &mut Random, count: &mut Count) {
     let mut g = E::random_start(random, count);
     for _ in 0..40 {
         let n = random_length(random);
-        let kind = &KINDS[random.below(6) as usize];
+        let kind = &KINDS[random.below(KINDS.len() as u64) as usize];
         match random.below(10) {
             0..=2 => g.typed(kind, n, count),
             3 | 4 => g.bytes(kind.number, n * kind.width, count),

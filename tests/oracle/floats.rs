@@ -1,9 +1,12 @@
 //! Our float calls, linked as a static library, against the Rust's: the same bits for the same bits, at every lane. Inputs are random
 //! patterns of each call's domain, patterns with one lane of any kind, and every boundary at every lane; what a call should
-//! refuse is told here from the fields of the pattern. The argument is how many random lanes each function gets; or `answers`, which reads
-//! the lanes of lanes.txt and writes them with the Rust's results.
+//! refuse is told here from the fields of the pattern. Units that are never 0, which the Rust doesn't have, are held to their formulas in
+//! integers (forms.rs). The argument is how many random lanes each function gets; or `answers`, which reads the lanes of lanes.txt and
+//! writes them with the Rust's results.
 mod common;
+mod forms;
 use common::Random;
+use forms::{open01_f32, open01_f64};
 use tpt_simd_rng::{math, u32_to_unit_f32, u64_to_unit_f64};
 
 /// How many lanes were compared, how many calls were refused, and what differed.
@@ -29,8 +32,8 @@ impl Count {
 macro_rules! compared {
     (mod $name:ident, $float:ty, $bits:ty,
      width $width:expr, digits $digits:expr, bias $bias:expr, reach $reach:expr, root2 $root2:expr, low $low:expr,
-     ours $c_ln:ident $c_sincos:ident $c_sqrt:ident $c_bm:ident $c_unit:ident $c_rest:ident,
-     rust $ln:ident $sincos:ident $sqrt:ident $bm:ident $unit:ident) => {
+     ours $c_ln:ident $c_sincos:ident $c_sqrt:ident $c_bm:ident $c_unit:ident $c_rest:ident $c_open01:ident,
+     rust $ln:ident $sincos:ident $sqrt:ident $bm:ident $unit:ident, formula $open01:ident) => {
         mod $name {
             use super::*;
             type Lanes = [$float; 8];
@@ -42,6 +45,7 @@ macro_rules! compared {
                 fn $c_bm(u1: &Lanes, u2: &Lanes, cos: &mut Lanes, sin: &mut Lanes) -> u64;
                 fn $c_unit(x: $bits) -> $bits;
                 fn $c_rest(x: $bits) -> $bits;
+                fn $c_open01(x: $bits) -> $bits;
             }
 
             const SIGN: $bits = 1 << ($width - 1);
@@ -268,6 +272,27 @@ macro_rules! compared {
                 count.report(concat!(stringify!($unit), ", and 1 less it")) + pairs.report(concat!(stringify!($bm), " of these"))
             }
 
+            /// Units that are never 0, of the words with these numbers in the upper bits, each with no bit below set, all and some; and of
+            /// random words, until there are `n`.
+            fn never_zero(upper: impl Iterator<Item = $bits>, n: u64, random: &mut Random) -> u64 {
+                let mut count = Count::default();
+                let mut check = |w: $bits| {
+                    let (ours, expected) = (unsafe { $c_open01(w) }, $open01(w));
+                    count.lanes += 1;
+                    if ours != expected {
+                        count.differ(format!("{} of {w:x}: {ours:x} and not {expected:x}", stringify!($open01)));
+                    }
+                    count.lanes
+                };
+                for m in upper {
+                    for low in [0, <$bits>::MAX, random.next() as $bits] {
+                        check(m << ($width - $digits) | low >> $digits);
+                    }
+                }
+                while check(random.next() as $bits) < n {}
+                count.report(stringify!($open01))
+            }
+
             /// Writes the lines of eight lanes of a call, if it is one of these.
             pub fn answers(lines: &[Vec<&str>]) {
                 let Some(call) = CALLS.iter().find(|call| call.name == lines[0][0]) else { return };
@@ -285,10 +310,14 @@ macro_rules! compared {
                 for call in &CALLS {
                     differences += call.run(lanes, random);
                 }
+                let last: $bits = LEAST - 1; // the largest number that a unit which is never 0 is made of
                 if $width == 32 {
-                    differences + units(1 << 24, true, random)
+                    differences + units(1 << 24, true, random) + never_zero(0..=last, lanes, random)
                 } else {
-                    differences + units(lanes, false, random)
+                    // about powers of two, where the exponent changes, and at both ends
+                    let about = |at: $bits| at.saturating_sub(1000)..=last.min(at + 1000);
+                    let powers = (0..=$digits).flat_map(|place| about(1 << place));
+                    differences + units(lanes, false, random) + never_zero(powers, lanes, random)
                 }
             }
         }
@@ -298,14 +327,16 @@ macro_rules! compared {
 compared!(
     mod single, f32, u32,
     width 32, digits 23, bias 127, reach 20, root2 0x3FB5_04F3, low 8,
-    ours oracle_ln_f32 oracle_sincos_turns_f32 oracle_sqrt_f32 oracle_box_muller_f32 oracle_unit_f32 oracle_one_minus_unit_f32,
-    rust ln_f32 sincos_turns_f32 sqrt_f32 box_muller_f32 u32_to_unit_f32
+    ours oracle_ln_f32 oracle_sincos_turns_f32 oracle_sqrt_f32 oracle_box_muller_f32 oracle_unit_f32 oracle_one_minus_unit_f32
+         oracle_open01_f32,
+    rust ln_f32 sincos_turns_f32 sqrt_f32 box_muller_f32 u32_to_unit_f32, formula open01_f32
 );
 compared!(
     mod double, f64, u64,
     width 64, digits 52, bias 1023, reach 40, root2 0x3FF6_A09E_667F_3BCD, low 12,
-    ours oracle_ln_f64 oracle_sincos_turns_f64 oracle_sqrt_f64 oracle_box_muller_f64 oracle_unit_f64 oracle_one_minus_unit_f64,
-    rust ln_f64 sincos_turns_f64 sqrt_f64 box_muller_f64 u64_to_unit_f64
+    ours oracle_ln_f64 oracle_sincos_turns_f64 oracle_sqrt_f64 oracle_box_muller_f64 oracle_unit_f64 oracle_one_minus_unit_f64
+         oracle_open01_f64,
+    rust ln_f64 sincos_turns_f64 sqrt_f64 box_muller_f64 u64_to_unit_f64, formula open01_f64
 );
 
 fn main() {

@@ -1,5 +1,6 @@
 //! What the C library and the engines should answer, from the Rust: its generators laid out as the scope document's saved forms, and its
-//! fills as bytes. The Rust counts no draws, made or left, and no steps of a jump: those numbers are the customers'.
+//! fills as bytes. The Rust counts no draws, made or left, and no steps of a jump: those numbers are the customers'. Nor has it kinds 7 and
+//! 8: these are the Rust's words, and the customers' formulas in integers.
 #![allow(dead_code)] // each program uses a part of it
 use tpt_simd_rng::{Philox4x32X8, Rng8, Xoshiro256pp, Xoshiro256ppX8};
 
@@ -11,14 +12,19 @@ pub struct Kind {
     pub places: usize,
     pub draws: usize,
 }
-pub const KINDS: [Kind; 6] = [
+pub const KINDS: [Kind; 8] = [
     Kind { name: "fill_u64", number: 1, width: 8, places: 8, draws: 1 },
     Kind { name: "fill_u32", number: 2, width: 4, places: 16, draws: 1 },
     Kind { name: "fill_f32", number: 3, width: 4, places: 16, draws: 1 },
     Kind { name: "fill_f64", number: 4, width: 8, places: 8, draws: 1 },
     Kind { name: "fill_normal_f32", number: 5, width: 4, places: 16, draws: 1 },
     Kind { name: "fill_normal_f64", number: 6, width: 8, places: 16, draws: 2 },
+    Kind { name: "fill_open01_f32", number: 7, width: 4, places: 16, draws: 1 },
+    Kind { name: "fill_open01_f64", number: 8, width: 8, places: 8, draws: 1 },
 ];
+
+/// Numbers that are no kind's: the next ones, and those that would be one if some of their bits were dropped.
+pub const UNKNOWN: [u64; 9] = [0, 9, 10, 255, 257, 264, (1 << 32) + 1, 1 << 63, u64::MAX];
 impl Kind {
     pub fn draws_for(&self, n: usize) -> u64 {
         (self.draws * n.div_ceil(self.places)) as u64
@@ -27,6 +33,35 @@ impl Kind {
 
 pub fn kind(number: u64) -> Option<&'static Kind> {
     KINDS.iter().find(|kind| kind.number == number)
+}
+
+/// The pattern of n / 2^scale, a normal number below 1, in a format of so many digits after the leading one: n's highest bit is the leading
+/// one, the bits below it are the first digits, and where it stands gives the exponent. Nothing is dropped, because n has no more bits.
+fn fraction(n: u64, scale: u64, digits: u64, bias: u64) -> u64 {
+    let top = u64::from(n.ilog2());
+    (bias + top - scale) << digits | (n ^ 1 << top) << (digits - top)
+}
+
+/// The element of kind 7 of a half: (2m + 1) / 2^24, where m = floor(h / 2^9).
+pub fn open01_f32(h: u32) -> u32 {
+    fraction(2 * u64::from(h >> 9) + 1, 24, 23, 127) as u32
+}
+
+/// The element of kind 8 of a word: (2m + 1) / 2^53, where m = floor(w / 2^12).
+pub fn open01_f64(w: u64) -> u64 {
+    fraction(2 * (w >> 12) + 1, 53, 52, 1023)
+}
+
+/// The patterns of a fill of kind 7, of the Rust's halves.
+pub fn fill_open01_f32<R: Rng8>(rust: &mut R, out: &mut [u32]) {
+    rust.fill_u32(out);
+    out.iter_mut().for_each(|h| *h = open01_f32(*h));
+}
+
+/// The patterns of a fill of kind 8, of the Rust's words.
+pub fn fill_open01_f64<R: Rng8>(rust: &mut R, out: &mut [u64]) {
+    rust.fill_u64(out);
+    out.iter_mut().for_each(|w| *w = open01_f64(*w));
 }
 
 /// The steps that a jump makes, and a long jump too.
@@ -55,7 +90,9 @@ pub fn filled<R: Rng8>(rust: &mut R, number: u64, n: usize) -> (i64, Vec<u8>) {
         3 => bytes(n, |out| rust.fill_f32(out), f32::to_le_bytes),
         4 => bytes(n, |out| rust.fill_f64(out), f64::to_le_bytes),
         5 => bytes(n, |out| rust.fill_normal_f32(out), f32::to_le_bytes),
-        _ => bytes(n, |out| rust.fill_normal_f64(out), f64::to_le_bytes),
+        6 => bytes(n, |out| rust.fill_normal_f64(out), f64::to_le_bytes),
+        7 => bytes(n, |out| fill_open01_f32(rust, out), u32::to_le_bytes),
+        _ => bytes(n, |out| fill_open01_f64(rust, out), u64::to_le_bytes),
     };
     (kind(number).expect("a kind").draws_for(n) as i64, out)
 }

@@ -4,7 +4,7 @@
 mod common;
 mod forms;
 use common::{Count, Random};
-use forms::{draw, filled, kind, numbered, philox_refusal, Numbered, Saved};
+use forms::{draw, filled, kind, numbered, philox_refusal, Numbered, Saved, KINDS, UNKNOWN};
 use tpt_simd_rng::{Xoshiro256pp, Xoshiro256ppX8};
 
 type Fill = unsafe extern "C" fn(*mut u8, usize, u64, *mut u8, usize) -> i64;
@@ -283,7 +283,9 @@ impl Engine for Numbered {
 
 // ---- the runs
 
-const UNKNOWN: [u64; 8] = [0, 7, 8, 255, 257, (1 << 32) + 1, 1 << 63, u64::MAX];
+fn random_kind(random: &mut Random) -> u64 {
+    1 + random.below(KINDS.len() as u64)
+}
 
 fn random_length(random: &mut Random) -> usize {
     let n = match random.below(4) {
@@ -309,7 +311,7 @@ fn refused<R: Engine>(form: &[u8], rust: &mut R, random: &mut Random, count: &mu
     match random.below(4) {
         0 => R::own_call(pair, random, count),
         3 => pair.skip(random_draws(random), count),
-        1 => pair.fill(1 + random.below(6), random_length(random), random, count),
+        1 => pair.fill(random_kind(random), random_length(random), random, count),
         _ => pair.fill(random.of(&UNKNOWN), random_length(random), random, count),
     }
 }
@@ -320,7 +322,7 @@ fn list<R: Engine>(random: &mut Random, count: &mut Count) {
     let (mut form, mut rust) = R::start(random, count);
     for _ in 0..40 {
         let n = random_length(random);
-        let number = 1 + random.below(6);
+        let number = random_kind(random);
         let width = kind(number).expect("a kind").width;
         let pair = Pair { form: &mut form, rust: &mut rust, refusal: 0 };
         match random.below(11) {

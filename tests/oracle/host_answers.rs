@@ -1,7 +1,7 @@
 //! Writes the Rust's answers for tests/host. With `calls`: lists of calls on the C library, tests/host/expected.txt. With `paths`: what
 //! examples/paths prints, tests/host/paths.txt. Buffers are given by their digests, 64-bit FNV-1a.
 mod forms;
-use forms::{draw, filled, Numbered, Saved};
+use forms::{draw, filled, Numbered, Saved, KINDS};
 use tpt_simd_rng::{Rng8, Xoshiro256ppX8};
 
 const EMPTY: u64 = 0xcbf2_9ce4_8422_2325;
@@ -63,9 +63,9 @@ impl Philox {
 const LENGTHS: [u64; 20] = [0, 1, 7, 8, 9, 15, 16, 17, 24, 31, 33, 64, 500, 511, 513, 1023, 1024, 1025, 1040, 3001];
 
 fn every_length(mut fill: impl FnMut(u64, u64)) {
-    for kind in 1..=6 {
+    for kind in &KINDS {
         for places in LENGTHS {
-            fill(kind, places);
+            fill(kind.number, places);
         }
     }
 }
@@ -81,6 +81,10 @@ fn calls() {
         g.jump_blocks(n);
         g.fill(6 - i as u64, 37 + 50 * n % 99);
     }
+    for (kind, n) in [(7, 3), (8, round + 1)] {
+        g.jump_blocks(n);
+        g.fill(kind, 1101);
+    }
 
     let mut g = Philox::start(0, 0);
     every_length(|kind, places| g.fill(kind, places));
@@ -93,6 +97,7 @@ fn calls() {
         g.seek(block);
         g.fill(1 + i as u64 % 6, 8 * (i as u64 % 3) + 1);
         g.fill(1 + i as u64 % 5, 40 + i as u64);
+        g.fill(7 + i as u64 % 2, 20 + i as u64);
     }
     skips();
 }
@@ -100,18 +105,23 @@ fn calls() {
 /// The draws of the skips: made one by one.
 const SKIPS: [u64; 14] = [0, 1, 2, 3, 7, 8, 63, 64, 255, 256, 1000, 4095, 65_537, 1_000_003];
 
+/// Each of the skips, and the kind of the fill after it: first kinds 1 to 6 in turn, and then kinds 7 and 8.
+fn skips_and_kinds() -> impl Iterator<Item = (u64, u64, u64)> {
+    [(1, 6), (7, 2)].into_iter().flat_map(|(first, kinds)| (0..).zip(SKIPS).map(move |(i, n)| (i, n, first + i % kinds)))
+}
+
 fn skips() {
     let mut g = Xoshiro::start(7, 5);
-    for (i, n) in SKIPS.into_iter().enumerate() {
+    for (_, n, kind) in skips_and_kinds() {
         g.skip(n);
-        g.fill(1 + i as u64 % 6, 24);
+        g.fill(kind, 24);
     }
     let mut g = Philox::start(7, 5);
     for from in [0, u64::MAX - 1000] {
         g.seek(from);
-        for (i, n) in SKIPS.into_iter().enumerate() {
+        for (i, n, kind) in skips_and_kinds() {
             g.skip(n);
-            g.fill(1 + i as u64 % 6, 8 * (i as u64 % 3 % 2)); // words wait before some of the skips
+            g.fill(kind, 8 * (i % 3 % 2)); // words wait before some of the skips
         }
     }
 }

@@ -6,7 +6,7 @@ use forms::{draw, filled, Numbered, Saved};
 use std::io::Write;
 use tpt_simd_rng::{Xoshiro256pp, Xoshiro256ppX8};
 
-const NAMES: [&str; 6] = ["u64", "u32", "f32", "f64", "normal_f32", "normal_f64"];
+const NAMES: [&str; 8] = ["u64", "u32", "f32", "f64", "normal_f32", "normal_f64", "open01_f32", "open01_f64"];
 
 /// The values that are made at once: whole groups of every kind, so that an order of any length fits in the memory.
 const PIECE: usize = 1 << 24;

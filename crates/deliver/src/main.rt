@@ -109,7 +109,9 @@ fn refuse(n: u64) {
             b"18446744073709551615 for xoshiro, to 4611686018427387903 for philox",
         );
     } else if n == 5 {
-        say(b"deliver: KIND: 1 to 6, or u64, u32, f32, f64, normal_f32, normal_f64\n");
+        say(
+            b"deliver: KIND: 1 to 8, or u64, u32, f32, f64, normal_f32, normal_f64, open01_f32, open01_f64\n",
+        );
     } else if n == 6 {
         say_number(b"COUNT", b"18446744073709551615");
     } else if n == 7 {

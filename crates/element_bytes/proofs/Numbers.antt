@@ -9,18 +9,21 @@ use Rattle.base.specs.Stored.{stored}
 use Rattle.fills.specs.Buffer.{bytesKind, groupsAhead, drawsAhead, storedGroups}
 use Rattle.fills.specs.Fill.{roundUp}
 use Rattle.fills.specs.Kinds.{AnyKind, kindAt, of, u64s}
-use Rattle.fills.proofs.kinds.Numbers.{past-6}
+use Rattle.fills.proofs.kinds.Numbers.{past-8}
 
-pub is-other : (k : ℕ) → (k ≡ 2 → ⊥) → (k ≡ 3 → ⊥) → (k ≡ 4 → ⊥) → (k ≡ 5 → ⊥) → (k ≡ 6 → ⊥) → kindAt k ≡ of u64s
+pub is-other : (k : ℕ) → (k ≡ 2 → ⊥) → (k ≡ 3 → ⊥) → (k ≡ 4 → ⊥) → (k ≡ 5 → ⊥) → (k ≡ 6 → ⊥) → (k ≡ 7 → ⊥) → (k ≡ 8 → ⊥)
+    → kindAt k ≡ of u64s
 unfolding kindAt
-is-other zero a b c d e = refl
-is-other (suc zero) a b c d e = refl
-is-other (suc (suc zero)) a b c d e = absurd (a refl)
-is-other (suc (suc (suc zero))) a b c d e = absurd (b refl)
-is-other (suc (suc (suc (suc zero)))) a b c d e = absurd (c refl)
-is-other (suc (suc (suc (suc (suc zero))))) a b c d e = absurd (d refl)
-is-other (suc (suc (suc (suc (suc (suc zero)))))) a b c d e = absurd (e refl)
-is-other (suc (suc (suc (suc (suc (suc (suc k))))))) a b c d e = past-6 k
+is-other zero a b c d e f g = refl
+is-other (suc zero) a b c d e f g = refl
+is-other (suc (suc zero)) a b c d e f g = absurd (a refl)
+is-other (suc (suc (suc zero))) a b c d e f g = absurd (b refl)
+is-other (suc (suc (suc (suc zero)))) a b c d e f g = absurd (c refl)
+is-other (suc (suc (suc (suc (suc zero))))) a b c d e f g = absurd (d refl)
+is-other (suc (suc (suc (suc (suc (suc zero)))))) a b c d e f g = absurd (e refl)
+is-other (suc (suc (suc (suc (suc (suc (suc zero))))))) a b c d e f g = absurd (f refl)
+is-other (suc (suc (suc (suc (suc (suc (suc (suc zero)))))))) a b c d e f g = absurd (g refl)
+is-other (suc (suc (suc (suc (suc (suc (suc (suc (suc k))))))))) a b c d e f g = past-8 k
 
 -- a kind other than 6: a group is 64 bytes and takes one draw
 pub record Single (K : AnyKind) : Type 0 where
@@ -36,7 +39,9 @@ single (suc (suc (suc zero))) h = record { bytes = refl; draws = refl }
 single (suc (suc (suc (suc zero)))) h = record { bytes = refl; draws = refl }
 single (suc (suc (suc (suc (suc zero))))) h = record { bytes = refl; draws = refl }
 single (suc (suc (suc (suc (suc (suc zero)))))) h = absurd (h refl)
-single (suc (suc (suc (suc (suc (suc (suc k))))))) h = subst Single (sym (past-6 k)) (record { bytes = refl; draws = refl })
+single (suc (suc (suc (suc (suc (suc (suc zero))))))) h = record { bytes = refl; draws = refl }
+single (suc (suc (suc (suc (suc (suc (suc (suc zero)))))))) h = record { bytes = refl; draws = refl }
+single (suc (suc (suc (suc (suc (suc (suc (suc (suc k))))))))) h = subst Single (sym (past-8 k)) (record { bytes = refl; draws = refl })
 
 module _ (k : ℕ) (h : k ≡ 6 → ⊥) where
   pub single-ahead : (n : ℕ) → groupsAhead (bytesKind (kindAt k .kind)) n ≡ min (roundUp n 64) 16
@@ -53,8 +58,9 @@ module _ (k : ℕ) (b l : List ℕ) (at : ℕ) {out : List ℕ} where
   pub mapped-by : (n : ℕ) → k ≡ n → out ≡ mapped (kindAt n) b l at → out ≡ mapped (kindAt k) b l at
   mapped-by n e eo = eo ∙ ap (λ (m : ℕ). mapped (kindAt m) b l at) (sym e)
 
-  pub mapped-other : (k ≡ 2 → ⊥) → (k ≡ 3 → ⊥) → (k ≡ 4 → ⊥) → (k ≡ 5 → ⊥) → (k ≡ 6 → ⊥) → out ≡ mapped (of u64s) b l at → out ≡ mapped (kindAt k) b l at
-  mapped-other p q r s t eo = eo ∙ ap (λ (K : AnyKind). mapped K b l at) (sym (is-other k p q r s t))
+  pub mapped-other : (k ≡ 2 → ⊥) → (k ≡ 3 → ⊥) → (k ≡ 4 → ⊥) → (k ≡ 5 → ⊥) → (k ≡ 6 → ⊥) → (k ≡ 7 → ⊥) → (k ≡ 8 → ⊥)
+      → out ≡ mapped (of u64s) b l at → out ≡ mapped (kindAt k) b l at
+  mapped-other p q r s t u v eo = eo ∙ ap (λ (K : AnyKind). mapped K b l at) (sym (is-other k p q r s t u v))
 
 -- the bytes that a group of the draw w leaves in l from at on
 abbrev grouped : AnyKind → List ℕ → List ℕ → ℕ → List ℕ
@@ -64,8 +70,9 @@ module _ (k : ℕ) (w l : List ℕ) (at : ℕ) {out : List ℕ} where
   pub grouped-by : (n : ℕ) → k ≡ n → out ≡ grouped (kindAt n) w l at → out ≡ grouped (kindAt k) w l at
   grouped-by n e eo = eo ∙ ap (λ (m : ℕ). grouped (kindAt m) w l at) (sym e)
 
-  pub grouped-other : (k ≡ 2 → ⊥) → (k ≡ 3 → ⊥) → (k ≡ 4 → ⊥) → (k ≡ 5 → ⊥) → (k ≡ 6 → ⊥) → out ≡ grouped (of u64s) w l at → out ≡ grouped (kindAt k) w l at
-  grouped-other p q r s t eo = eo ∙ ap (λ (K : AnyKind). grouped K w l at) (sym (is-other k p q r s t))
+  pub grouped-other : (k ≡ 2 → ⊥) → (k ≡ 3 → ⊥) → (k ≡ 4 → ⊥) → (k ≡ 5 → ⊥) → (k ≡ 6 → ⊥) → (k ≡ 7 → ⊥) → (k ≡ 8 → ⊥)
+      → out ≡ grouped (of u64s) w l at → out ≡ grouped (kindAt k) w l at
+  grouped-other p q r s t u v eo = eo ∙ ap (λ (K : AnyKind). grouped K w l at) (sym (is-other k p q r s t u v))
 
 pub double-draws : (k : ℕ) → k ≡ 6 → (n : ℕ) → drawsAhead (bytesKind (kindAt k .kind)) n ≡ 2 * min (roundUp n 128) 8
 unfolding kindAt

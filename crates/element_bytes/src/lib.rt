@@ -2,6 +2,8 @@
 use elements::f32s;
 use elements::f64s;
 use elements::groups;
+use elements::open01_f32s;
+use elements::open01_f64s;
 use elements::u32s;
 use elements::u64s;
 use normals::normal_f32s;
@@ -25,13 +27,19 @@ pub fn put_group(kind: u64, out: &mut [u8], at: usize, w: [u64; 8])
         return f32s::put_bytes(out, at, w);
     }
     if kind == 4 {
-        return f64s::put_bytes(out, at, w);
+        return f64s::put_bytes(out, at, w, false);
     }
     if kind == 5 {
         return normal_f32s::put_bytes(out, at, w);
     }
     if kind == 6 {
         return normal_f64s::put_bytes(out, at, w, w);
+    }
+    if kind == 7 {
+        return open01_f32s::put_bytes(out, at, w);
+    }
+    if kind == 8 {
+        return f64s::put_bytes(out, at, w, true);
     }
     u64s::put_bytes(out, at, w);
 }
@@ -55,6 +63,12 @@ pub fn map_bytes(kind: u64, out: &mut [u8], at: usize, b: &[u64; 128])
     }
     if kind == 6 {
         return normal_f64s::map_bytes(out, at, b);
+    }
+    if kind == 7 {
+        return open01_f32s::map_bytes(out, at, b);
+    }
+    if kind == 8 {
+        return open01_f64s::map_bytes(out, at, b);
     }
     u64s::map_bytes(out, at, b);
 }

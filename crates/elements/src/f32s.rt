@@ -3,9 +3,9 @@ use crate::groups;
 use floats::patterns;
 use floats::units;
 use slices::bytes;
-ghost use mathlib.Core.List.{map};
+ghost use mathlib.Core.List.{map, _++_};
 ghost use mathlib.Core.Path.{_≡_};
-ghost use Prim.Native.Nat.{_+_, _-_, _<_, _≤_, min};
+ghost use Prim.Native.Nat.{_-_, min};
 ghost use lib.ListN.{length};
 ghost use Rattle.base.specs.Stored.{stored};
 ghost use lib.Ieee.{binary32, toBits};
@@ -47,35 +47,30 @@ pub fn units_f32(h: [u32; 8]) -> [f32; 8]
     out
 }
 
-// One group from the words of its draw.
-fn write_f32(out: &mut [f32], at: usize, w: [u64; 8])
-    requires { ⌜ at < length (now out) ⌝ }
-    ensures { λ _. ⌜ now (out .exit) ≡ stored (now (out .entry)) at (f32s .group (λ _. w)) ⌝ }
+// Stores two halves of a group, one after the other, in the places from `at` on, as far as `out` has them.
+pub fn put_halves(out: &mut [f32], at: usize, lo: [f32; 8], hi: [f32; 8])
+    ensures { λ _. ⌜ now (out .exit) ≡ stored (now (out .entry)) at (lo ++ hi) ⌝ }
 {
-    put_f32(out, at, units_f32(groups::lows(w)));
-    put_f32(out, at + 8, units_f32(groups::highs(w)));
-}
-
-// The same of a group that has room: no test for each half.
-fn whole_f32(out: &mut [f32], at: usize, w: [u64; 8])
-    requires { ⌜ at + 16 ≤ length (now out) ⌝ }
-    ensures { λ _. ⌜ now (out .exit) ≡ stored (now (out .entry)) at (f32s .group (λ _. w)) ⌝ }
-{
-    put_f32_n(out, at, units_f32(groups::lows(w)), 8);
-    put_f32_n(out, at + 8, units_f32(groups::highs(w)), 8);
+    if out.len() <= at {
+        return;
+    }
+    // where both have room: no test for each
+    if 16 <= out.len() - at {
+        put_f32_n(out, at, lo, 8);
+        put_f32_n(out, at + 8, hi, 8);
+        return;
+    }
+    put_f32(out, at, lo);
+    put_f32(out, at + 8, hi);
 }
 
 // One group from the words of its draw in the places from `at` on, as far as `out` has them.
 pub fn put_group(out: &mut [f32], at: usize, w: [u64; 8])
     ensures { λ _. ⌜ now (out .exit) ≡ stored (now (out .entry)) at (f32s .group (λ _. w)) ⌝ }
 {
-    if out.len() <= at {
-        return;
-    }
-    if 16 <= out.len() - at {
-        return whole_f32(out, at, w);
-    }
-    write_f32(out, at, w);
+    let lo = units_f32(groups::lows(w));
+    let hi = units_f32(groups::highs(w));
+    put_halves(out, at, lo, hi);
 }
 
 // The groups of the buffer `b` in the places from `at` on, as far as both go.

@@ -1,9 +1,9 @@
 -- The claims of specs/Claims.antt. Assumes nothing.
 use mathlib.Core.Bool.{Bool, true, false, cond, _&&_}
 use mathlib.Core.List.{List, [], _∷_, _++_, map}
-use mathlib.Core.Path.{_≡_, refl, sym, ap, ap₂, _∙_}
+use mathlib.Core.Path.{_≡_, refl, sym, ap, ap₂, subst, _∙_}
 use Prim.Native.Nat.{ℕ, zero, suc, _+_, _*_, _/_, _%_, _^_, _<_, _≤_}
-use native.Mathlib.Nat.{not-suc-le-zero, le-of-suc-le-suc, mul-suc, mul-comm, mul-le-mul-left, pow-suc}
+use native.Mathlib.Nat.{mod-lt, not-suc-le-zero, le-of-suc-le-suc, mul-suc, mul-comm, mul-le-mul-left, pow-suc}
 use native.Mathlib.Nat.{div-eq-of-eq-mul-left, div-lt-iff-lt-mul, div-div-eq-div-mul}
 use native.Mathlib.Omega.{arith}
 use borrow.Author.Tests.{ltb-true, ltb-false, leb-true, eqb-true, le-leb, lt-leb, eq-eqb, ne-eqb}
@@ -19,17 +19,18 @@ use Rattle.base.proofs.Bytes.{length-leBytes, getD-flat}
 use Rattle.base.proofs.Table.{length-table, getD-table, placed, table-same}
 use Rattle.base.specs.Zip.{zipWith}
 use Rattle.floats.specs.patterns.Numbers as numbers
-use Rattle.floats.specs.units.Unit.{unit, oneMinusUnit}
+use Rattle.floats.specs.units.Unit.{unit, oneMinusUnit, open01}
 use Rattle.math.specs.BoxMuller.{cosHalf, sinHalf}
 use Rattle.fills.specs.Fill.{Kind, roundUp, drawsFor, element}
-use Rattle.fills.specs.Kinds.{lows, highs, u64s, u32s, f32s, f64s, normalsOf, normalF32s, normalF64s, kindAt}
+use Rattle.fills.specs.Kinds.{lows, highs, u64s, u32s, floatsOf, f32s, f64s, normalsOf, normalF32s}
+use Rattle.fills.specs.Kinds.{normalF64s, open01F32s, open01F64s, kinds, kindAt}
 use Rattle.fills.specs.FillBytes.{bytesOf, refusalOf, elements, bytesWritten, bytesDraws}
-use Rattle.fills.specs.Claims.{byHalf, u64At, u32At, f32At, f64At, normalF32At, normalF64At}
-use Rattle.fills.specs.Claims.{Row, Row1, Row2, Row3, Row4, Row5, Row6, KindNumbers, DrawsAndWidths, SixKinds}
+use Rattle.fills.specs.Claims.{byHalf, u64At, u32At, f32At, f64At, normalF32At, normalF64At, open01F32At, open01F64At}
+use Rattle.fills.specs.Claims.{Row, Row1, Row2, Row3, Row4, Row5, Row6, Row7, Row8, KindNumbers, DrawsAndWidths, EightKinds}
 use Rattle.fills.specs.Claims.{Refusals, BytesOfTheFill, Places, PlacesOfRows, BytePlaces, BytesOfRows, AgreeBelow, OnlyItsDraws}
 use Rattle.fills.proofs.Filling.{Sound}
 use Rattle.fills.proofs.Rounding.{round-covers}
-use Rattle.fills.proofs.Sounds.{halves-long, length-zip, row}
+use Rattle.fills.proofs.Sounds.{length-zip, u64s-sound, u32s-sound, row}
 
 -- ---- elements of lists made element by element
 getD-map : {A B : Type 0} (f : A → B) (xs : List A) (i : ℕ) (d : A) (e : B) → i < length xs → getD (map f xs) i e ≡ f (getD xs i d)
@@ -97,18 +98,30 @@ row-2 words h k =
     (λ l. start ∙ first-half (lows w) (highs w) long r 0 l ∙ low ∙ ap (λ (i : ℕ). getD w i 0 % 2 ^ 32) (omega arith))
     (λ l. start ∙ second-half (lows w) (highs w) long r 0 l (omega arith) ∙ high ∙ ap (λ (i : ℕ). getD w i 0 / 2 ^ 32) (omega arith))
 
+-- v of each element, where a kind of floats is made so
+floats-row : {A : Type 0} (f : Format) (v : A → Float) (K : Kind A) → Sound K → {says : (ℕ → List ℕ) → ℕ → A} → Row says K
+    → Row (λ words k. v (says words k)) (floatsOf f v K)
+floats-row f v K S is words h k =
+    let W : ℕ → List ℕ = λ m. words (K .draws * (k / K .places) + m) in
+    let long = S .full W (λ m. h (K .draws * (k / K .places) + m)) in
+    getD-map v (K .group W) (k % K .places) (K .blank) numbers.zero (subst (λ (n : ℕ). k % K .places < n) (sym long) (mod-lt k (S .some)))
+    ∙ ap v (is words h k)
+
 pub row-3 : Row3
 unfolding kindAt
-row-3 words h k =
-    let w : List ℕ = words (1 * (k / 16) + 0) in
-    getD-map (unit binary32) (lows w ++ highs w) (k % 16) 0 _ (omega (arith, halves-long w (h (1 * (k / 16) + 0))))
-    ∙ ap (unit binary32) (row-2 words h k)
+row-3 = floats-row binary32 (unit binary32) u32s u32s-sound row-2
 
 pub row-4 : Row4
 unfolding kindAt
-row-4 words h k =
-    let w : List ℕ = words (1 * (k / 8) + 0) in
-    getD-map (unit binary64) w (k % 8) 0 _ (omega (arith, h (1 * (k / 8) + 0))) ∙ ap (unit binary64) (row-1 words h k)
+row-4 = floats-row binary64 (unit binary64) u64s u64s-sound row-1
+
+pub row-7 : Row7
+unfolding kindAt
+row-7 = floats-row binary32 (open01 binary32) u32s u32s-sound row-2
+
+pub row-8 : Row8
+unfolding kindAt
+row-8 = floats-row binary64 (open01 binary64) u64s u64s-sound row-1
 
 -- the halves of Box-Muller, from words a and b
 module _ (f : Format) (a b : List ℕ) (ha : length a ≡ 8) (hb : length b ≡ 8) (r : ℕ) (d : Float) where
@@ -163,7 +176,7 @@ row-6 words h k =
 
 pub kind-numbers : KindNumbers
 unfolding kindAt
-kind-numbers = record { kind1 = refl; kind2 = refl; kind3 = refl; kind4 = refl; kind5 = refl; kind6 = refl }
+kind-numbers = record { kind1 = refl; kind2 = refl; kind3 = refl; kind4 = refl; kind5 = refl; kind6 = refl; kind7 = refl; kind8 = refl }
 
 pub draws-and-widths : DrawsAndWidths
 unfolding kindAt
@@ -175,34 +188,42 @@ draws-and-widths n =
       draws4 = omega arith;
       draws5 = omega arith;
       draws6 = refl;
+      draws7 = omega arith;
+      draws8 = omega arith;
       width1 = refl;
       width2 = refl;
       width3 = refl;
       width4 = refl;
       width5 = refl;
       width6 = refl;
+      width7 = refl;
+      width8 = refl;
     }
 
 -- ---- the refusals of a byte fill
-pub six-kinds : SixKinds
-six-kinds = refl
+pub eight-kinds : EightKinds
+eight-kinds = refl
 
 pub refusals : Refusals
 unfolding refusalOf
 refusals k n =
     record {
-      accepted = λ e. back (leb 1 k) (leb k 6) (eqb (n % w) 0) refl refl refl e;
-      accepts = λ a b z. simp (le-leb 1 k a, le-leb k 6 b, eq-eqb (n % w) 0 z);
+      accepted = λ e. back (leb 1 k) (leb k last) (eqb (n % w) 0) refl refl refl e;
+      accepts = λ a b z. simp (le-leb 1 k a, le-leb k last b, eq-eqb (n % w) 0 z);
       below = λ h. simp (lt-leb 1 k h);
-      above = λ h. simp (le-leb 1 k (omega arith), lt-leb k 6 h);
-      uneven = λ a b z. simp (le-leb 1 k a, le-leb k 6 b, ne-eqb (n % w) 0 z);
+      above = λ h. simp (le-leb 1 k (omega arith), lt-leb k last h);
+      uneven = λ a b z. simp (le-leb 1 k a, le-leb k last b, ne-eqb (n % w) 0 z);
     }
   where
+    last : ℕ
+    last = length kinds
+
     w : ℕ
     w = kindAt k .kind .width
 
-    back : (a b c : Bool) → leb 1 k ≡ a → leb k 6 ≡ b → eqb (n % w) 0 ≡ c → _≡_ {A = ℕ} (cond (a && b) (cond c 0 5) 4) 0 → (1 ≤ k) × (k ≤ 6) × (n % w ≡ 0)
-    back true true true p q r e = (leb-true 1 k p, leb-true k 6 q, eqb-true (n % w) 0 r)
+    back : (a b c : Bool) → leb 1 k ≡ a → leb k last ≡ b → eqb (n % w) 0 ≡ c → _≡_ {A = ℕ} (cond (a && b) (cond c 0 5) 4) 0
+        → (1 ≤ k) × (k ≤ last) × (n % w ≡ 0)
+    back true true true p q r e = (leb-true 1 k p, leb-true k last q, eqb-true (n % w) 0 r)
     back true true false p q r e = absurd (omega arith)
     back true false c p q r e = absurd (omega arith)
     back false b c p q r e = absurd (omega arith)
@@ -234,6 +255,8 @@ places-of-rows =
       f64 = places f64At f64s row-4;
       normalF32 = places normalF32At normalF32s row-5;
       normalF64 = places normalF64At normalF64s row-6;
+      open01F32 = places open01F32At open01F32s row-7;
+      open01F64 = places open01F64At open01F64s row-8;
     }
 
 byte-of : (n x j : ℕ) → j < n → getD (leBytes n x) j 0 ≡ x / 256 ^ j % 256
@@ -266,6 +289,8 @@ bytes-of-rows =
       bytes4 = byte-places 4 f64At row-4;
       bytes5 = byte-places 5 normalF32At row-5;
       bytes6 = byte-places 6 normalF64At row-6;
+      bytes7 = byte-places 7 open01F32At row-7;
+      bytes8 = byte-places 8 open01F64At row-8;
     }
 
 -- ---- the draws that a fill depends on

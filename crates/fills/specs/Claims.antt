@@ -10,10 +10,10 @@ use lib.ListN.{length, getD}
 use Rattle.base.specs.Engine.{Engine}
 use Rattle.base.specs.Bytes.{flat}
 use Rattle.base.specs.Table.{table}
-use Rattle.floats.specs.units.Unit.{unit, oneMinusUnit}
+use Rattle.floats.specs.units.Unit.{unit, oneMinusUnit, open01}
 use Rattle.math.specs.BoxMuller.{cosHalf, sinHalf}
 use Rattle.fills.specs.Fill.{Kind, roundUp, drawsFor, element, Filled}
-use Rattle.fills.specs.Kinds.{u64s, u32s, f32s, f64s, normalF32s, normalF64s, of, kinds, kindAt}
+use Rattle.fills.specs.Kinds.{u64s, u32s, f32s, f64s, normalF32s, normalF64s, open01F32s, open01F64s, of, kinds, kindAt}
 use Rattle.fills.specs.FillBytes.{bytesOf, refusalOf, bytesWritten, bytesDraws, FilledBytes}
 
 -- ---- the table, row by row: element k as the scope document says it
@@ -56,6 +56,13 @@ from64 half words k = half (oneMinusUnit binary64 (word words (2 * (k / 16)) (k 
 abbrev pub normalF64At : (ℕ → List ℕ) → ℕ → Float
 normalF64At words k = byHalf k (from64 (cosHalf binary64) words k) (from64 (sinHalf binary64) words k)
 
+-- 7: unit that is never 0 of kind 2; 8: of kind 1
+abbrev pub open01F32At : (ℕ → List ℕ) → ℕ → Float
+open01F32At words k = open01 binary32 (u32At words k)
+
+abbrev pub open01F64At : (ℕ → List ℕ) → ℕ → Float
+open01F64At words k = open01 binary64 (u64At words k)
+
 -- ---- the kind of each number has the elements of its row, where each draw has eight words
 abbrev pub Eights : (ℕ → List ℕ) → Type 0
 Eights words = (m : ℕ) → length (words m) ≡ 8
@@ -87,6 +94,14 @@ abbrev pub Row6 : Type 0
 unfolding kindAt
 Row6 = Row normalF64At (kindAt 6 .kind)
 
+abbrev pub Row7 : Type 0
+unfolding kindAt
+Row7 = Row open01F32At (kindAt 7 .kind)
+
+abbrev pub Row8 : Type 0
+unfolding kindAt
+Row8 = Row open01F64At (kindAt 8 .kind)
+
 -- which kind has which number
 pub record KindNumbers : Type 1 where
   pub kind1 : kindAt 1 ≡ of u64s
@@ -95,6 +110,8 @@ pub record KindNumbers : Type 1 where
   pub kind4 : kindAt 4 ≡ of f64s
   pub kind5 : kindAt 5 ≡ of normalF32s
   pub kind6 : kindAt 6 ≡ of normalF64s
+  pub kind7 : kindAt 7 ≡ of open01F32s
+  pub kind8 : kindAt 8 ≡ of open01F64s
 
 -- the draws for n places, and the widths in bytes
 pub record Columns (n : ℕ) : Type 0 where
@@ -104,19 +121,23 @@ pub record Columns (n : ℕ) : Type 0 where
   pub draws4 : drawsFor (kindAt 4 .kind) n ≡ roundUp n 8
   pub draws5 : drawsFor (kindAt 5 .kind) n ≡ roundUp n 16
   pub draws6 : drawsFor (kindAt 6 .kind) n ≡ 2 * roundUp n 16
+  pub draws7 : drawsFor (kindAt 7 .kind) n ≡ roundUp n 16
+  pub draws8 : drawsFor (kindAt 8 .kind) n ≡ roundUp n 8
   pub width1 : kindAt 1 .kind .width ≡ 8
   pub width2 : kindAt 2 .kind .width ≡ 4
   pub width3 : kindAt 3 .kind .width ≡ 4
   pub width4 : kindAt 4 .kind .width ≡ 8
   pub width5 : kindAt 5 .kind .width ≡ 4
   pub width6 : kindAt 6 .kind .width ≡ 8
+  pub width7 : kindAt 7 .kind .width ≡ 4
+  pub width8 : kindAt 8 .kind .width ≡ 8
 
 abbrev pub DrawsAndWidths : Type 0
 DrawsAndWidths = (n : ℕ) → Columns n
 
--- the kinds have the numbers 1 to 6
-abbrev pub SixKinds : Type 0
-SixKinds = length kinds ≡ 6
+-- the kinds have the numbers 1 to 8
+abbrev pub EightKinds : Type 0
+EightKinds = length kinds ≡ 8
 
 -- ---- the refusals of a byte fill: none exactly when the kind is a row of the table, counted from 1, and the length a multiple of its width;
 -- 4 comes before 5
@@ -152,6 +173,8 @@ pub record PlacesOfRows : Type 0 where
   pub f64 : Places f64At f64s
   pub normalF32 : Places normalF32At normalF32s
   pub normalF64 : Places normalF64At normalF64s
+  pub open01F32 : Places open01F32At open01F32s
+  pub open01F64 : Places open01F64At open01F64s
 
 -- the same of a byte fill of a number: byte j of element k, the lowest first, stands at k * width + j
 abbrev pub BytePlaces : {A : Type 0} → ((ℕ → List ℕ) → ℕ → A) → (A → ℕ) → ℕ → ℕ → Type 0
@@ -166,6 +189,8 @@ pub record BytesOfRows : Type 0 where
   pub bytes4 : BytePlaces f64At (toBits binary64) 4 8
   pub bytes5 : BytePlaces normalF32At (toBits binary32) 5 4
   pub bytes6 : BytePlaces normalF64At (toBits binary64) 6 8
+  pub bytes7 : BytePlaces open01F32At (toBits binary32) 7 4
+  pub bytes8 : BytePlaces open01F64At (toBits binary64) 8 8
 
 -- ---- a fill depends on no draw at or past its count: two streams of words that agree on its draws give the same elements and
 -- the same bytes

@@ -6,11 +6,14 @@ ghost use Rattle.fills.specs.Fill.{roundUp, drawsFor};
 ghost use Rattle.fills.specs.Kinds.{kinds, kindAt, isKind};
 ghost use Rattle.fills.specs.FillBytes.{refusalOf};
 
+// The rows of the table.
+const KINDS: u64 = 8;
+
 // How many kinds there are: their numbers are 1 to this.
 pub fn count() -> u64
     ensures { λ r. ⌜ r ≡ length kinds ⌝ }
 {
-    6
+    KINDS
 }
 
 // Whether `kind` is the number of a kind.
@@ -31,6 +34,9 @@ pub fn width(kind: u64) -> usize
         return 4;
     }
     if kind == 5 {
+        return 4;
+    }
+    if kind == 7 {
         return 4;
     }
     8

@@ -23,7 +23,9 @@ few-at (suc (suc zero)) n h = omega arith
 few-at (suc (suc (suc zero))) n h = omega arith
 few-at (suc (suc (suc (suc zero)))) n h = omega arith
 few-at (suc (suc (suc (suc (suc zero))))) n h = omega arith
-few-at (suc (suc (suc (suc (suc (suc i)))))) n h = omega arith
+few-at (suc (suc (suc (suc (suc (suc zero)))))) n h = omega arith
+few-at (suc (suc (suc (suc (suc (suc (suc zero))))))) n h = omega arith
+few-at (suc (suc (suc (suc (suc (suc (suc (suc i)))))))) n h = omega arith
 
 pub few-draws : (k n : ℕ) → n < 2 ^ 64 → bytesDraws k n < 2 ^ 63
 unfolding bytesDraws kindAt

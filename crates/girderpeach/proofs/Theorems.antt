@@ -15,7 +15,7 @@ use Rattle.base.proofs.Iterate.{iterate-keeps}
 use Rattle.base.proofs.Refused.{unless-none}
 use Rattle.base.proofs.Table.{getD-table}
 use Rattle.fills.specs.FillBytes.{refusalOf, bytesDraws}
-use Rattle.fills.specs.Kinds.{kindAt}
+use Rattle.fills.specs.Kinds.{kinds, kindAt}
 use Rattle.fills.proofs.Theorems as fills
 use Rattle.philox.specs.x8.Machine.{nextOf, sought, labelOf, leftOf}
 use Rattle.philox.specs.declared.x8.Label.{Label}
@@ -157,26 +157,26 @@ module _ (form : List ℕ) where
 
 -- ---- the kind, and the output's length
 module _ (k : ℕ) (out : List ℕ) where
-  in-table : Dec ((1 ≤ k) × (k ≤ 6))
-  in-table = both (decLe 1 k) (decLe k 6)
+  in-table : Dec ((1 ≤ k) × (k ≤ length kinds))
+  in-table = both (decLe 1 k) (decLe k (length kinds))
 
   is-multiple : Dec (length out % kindAt k .kind .width ≡ 0)
   is-multiple = ℕ-discrete (length out % kindAt k .kind .width) 0
 
-  outside : ((1 ≤ k) × (k ≤ 6) → ⊥) → refusalOf k (length out) ≡ 4
+  outside : ((1 ≤ k) × (k ≤ length kinds) → ⊥) → refusalOf k (length out) ≡ 4
   outside h = elim (decLe 1 k) [
-    | yes a ↦ elim (decLe k 6) [
+    | yes a ↦ elim (decLe k (length kinds)) [
       | yes b ↦ absurd (h (a, b))
       | no b ↦ fills.refusals k (length out) .above (omega arith)
     ]
     | no a ↦ fills.refusals k (length out) .below (omega arith)
   ]
 
-  uneven : 1 ≤ k → k ≤ 6 → (length out % kindAt k .kind .width ≡ 0 → ⊥) → refusalOf k (length out) ≡ 5
+  uneven : 1 ≤ k → k ≤ length kinds → (length out % kindAt k .kind .width ≡ 0 → ⊥) → refusalOf k (length out) ≡ 5
   unfolding refusalOf
-  uneven a b z = simp (le-leb 1 k a, le-leb k 6 b, ne-eqb (length out % kindAt k .kind .width) 0 z)
+  uneven a b z = simp (le-leb 1 k a, le-leb k (length kinds) b, ne-eqb (length out % kindAt k .kind .width) 0 z)
 
-  kind-number : (d : Dec ((1 ≤ k) × (k ≤ 6) → ⊥)) (e : Dec (length out % kindAt k .kind .width ≡ 0 → ⊥))
+  kind-number : (d : Dec ((1 ≤ k) × (k ≤ length kinds) → ⊥)) (e : Dec (length out % kindAt k .kind .width ≡ 0 → ⊥))
       → refusalOf k (length out) ≡ lowest (noKind k ∷ noMultiple k out ∷ []) (d, (e, tt))
   kind-number (yes h) e = outside h
   kind-number (no h) (yes q) = let t = stable in-table h in uneven (t .0) (t .1) q

@@ -8,7 +8,7 @@ use Prim.Native.Nat.{ℕ, _+_, _-_, _*_, _/_, _%_, _^_, _<_, _≤_}
 use lib.IntN.{ℤ, pos, negℤ}
 use lib.ListN.{length, getD}
 use Rattle.fills.specs.FillBytes.{bytesDraws}
-use Rattle.fills.specs.Kinds.{kindAt}
+use Rattle.fills.specs.Kinds.{kinds, kindAt}
 use Rattle.saved.specs.fields.Fields.{fields}
 use Rattle.saved.specs.philox4x32.Form as philox-form
 use Rattle.saved.specs.philox4x32.Claims.{upperIn}
@@ -59,9 +59,9 @@ wrongGroup form =
 abbrev pub wrongLengths : ℕ → List ℕ → ℕ → List ℕ → Refusal
 wrongLengths m s n t = refusal 1 ((length s ≡ m) × (length t ≡ n) → ⊥)
 
--- 4: a kind is outside 1 to 6; 5: the output's length isn't a multiple of the kind's width
+-- 4: a kind is no row of the table, counted from 1; 5: the output's length isn't a multiple of the kind's width
 abbrev pub noKind : ℕ → Refusal
-noKind k = refusal 4 ((1 ≤ k) × (k ≤ 6) → ⊥)
+noKind k = refusal 4 ((1 ≤ k) × (k ≤ length kinds) → ⊥)
 
 abbrev pub noMultiple : ℕ → List ℕ → Refusal
 noMultiple k out = refusal 5 (length out % kindAt k .kind .width ≡ 0 → ⊥)

@@ -6,8 +6,8 @@ use Prim.Native.Nat.{ℕ, _+_, _*_, _/_, _%_, _^_, _<_}
 use lib.Ieee.{binary32, binary64, toBits}
 use lib.ListN.{length, getD}
 use Rattle.fills.specs.Fill.{Kind}
-use Rattle.fills.specs.Kinds.{u64s, u32s, f32s, f64s, normalF32s, normalF64s}
-use Rattle.fills.specs.Claims.{Eights, u64At, u32At, f32At, f64At, normalF32At, normalF64At}
+use Rattle.fills.specs.Kinds.{u64s, u32s, f32s, f64s, normalF32s, normalF64s, open01F32s, open01F64s}
+use Rattle.fills.specs.Claims.{Eights, u64At, u32At, f32At, f64At, normalF32At, normalF64At, open01F32At, open01F64At}
 use Rattle.fills.specs.Handed.{RightFill, RightBytes}
 
 -- place k of a typed fill holds element k of the row
@@ -33,9 +33,13 @@ pub record Rows (G : Type 0) (W : ℕ → List ℕ) : Type 0 where
   pub f64 : PlacesOf W f64At f64s
   pub normalF32 : PlacesOf W normalF32At normalF32s
   pub normalF64 : PlacesOf W normalF64At normalF64s
+  pub open01F32 : PlacesOf W open01F32At open01F32s
+  pub open01F64 : PlacesOf W open01F64At open01F64s
   pub bytes1 : BytesOf G W u64At (λ x. x) 1 8
   pub bytes2 : BytesOf G W u32At (λ x. x) 2 4
   pub bytes3 : BytesOf G W f32At (toBits binary32) 3 4
   pub bytes4 : BytesOf G W f64At (toBits binary64) 4 8
   pub bytes5 : BytesOf G W normalF32At (toBits binary32) 5 4
   pub bytes6 : BytesOf G W normalF64At (toBits binary64) 6 8
+  pub bytes7 : BytesOf G W open01F32At (toBits binary32) 7 4
+  pub bytes8 : BytesOf G W open01F64At (toBits binary64) 8 8

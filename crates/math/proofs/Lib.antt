@@ -1,11 +1,10 @@
 -- Values that are their own rounding; the order of negative patterns, and the square root's guess; products with 1 or -1; the quarter's
--- law, and that it is a whole number; the range of the units; how the lists of Box-Muller's loops compose; and the theorems.
+-- law, and that it is a whole number; how the lists of Box-Muller's loops compose; and the theorems.
 pub mod Values
 pub mod Order
 pub mod Guess
 pub mod Signs
 pub mod Quarter
 pub mod Whole
-pub mod Range
 pub mod Halves
 pub mod Theorems

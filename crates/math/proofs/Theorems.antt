@@ -7,7 +7,7 @@ use native.Mathlib.Omega.{arith}
 use lib.Dec.{T, ltb, ltb→lt, lit≤}
 use lib.IntN.{ℤ, pos, natAbs}
 use lib.Signed.{nonNeg}
-use lib.Ieee.{Float, Format, binary32, binary64, prec, emax}
+use lib.Ieee.{Float, Format, binary32, binary64, prec}
 use lib.Ieee.{fin, fits, up, down, lt, round, add, sub, mul, div, neg, ofInt, ofBits, toBits}
 use lib.Ieee.Exact.{HasValue}
 use lib.Ieee.Fits.{and-l, and-r, down-pos}
@@ -18,12 +18,9 @@ use Rattle.math.specs.BoxMuller.{minusTwice}
 use Rattle.math.specs.Ln.{exponent32, exponent64, coefficients32, coefficients64, reduced32, reduced64, lnBits32, lnBits64, ln}
 use Rattle.math.specs.Turns.{shifted, quarter, wholeQuarters}
 use Rattle.math.specs.Sqrt.{guessOf, newtonStep, corrected, sqrt}
-use Rattle.floats.specs.units.Unit.{digits, places, unit, oneMinusUnit}
-use Rattle.floats.proofs.units.Theorems.{digits-lt, unit-exact, one-minus-unit-exact}
-use Rattle.math.specs.Claims.{signed, nearest4, width, cast, QuarterNearest, QuarterWhole, AtOne, UnitsPass}
+use Rattle.math.specs.Claims.{signed, nearest4, width, cast, QuarterNearest, QuarterWhole, AtOne}
 use Rattle.math.proofs.Quarter as quarters
 use Rattle.math.proofs.Whole.{whole-is, of-int-value, cast-back, low-bits, abs-signed}
-use Rattle.math.proofs.Range.{first-passes, second-passes}
 
 -- a turn in reach is below 2 ^ reach in size
 size-lt : (f : Format) (s : Bool) (m : ℕ) (e : ℤ) → T (inReach f (fin s m e)) → m * up e * 1 < 1 * 2 ^ reach f * down e
@@ -81,20 +78,3 @@ pub at-one : AtOne
 unfolding ln lnBits32 lnBits64 exponent32 exponent64 reduced32 reduced64 coefficients32 coefficients64 horner minusTwice sqrt guessOf newtonStep corrected ofBits toBits mul add sub div neg lt ofInt round
 at-one binary32 = (refl, refl, refl)
 at-one binary64 = (refl, refl, refl)
-
--- 2 ^ - places is no subnormal
-shallow : (f : Format) → places f ≤ emax f - 1
-shallow binary32 = omega arith
-shallow binary64 = omega arith
-
-above : (a b : ℕ) → b < a → 0 < a - b
-above a b h = omega arith
-
-rest : (a b : ℕ) → a - b ≤ a
-rest a b = omega arith
-
-pub units-pass : UnitsPass
-units-pass f w h = (
-  first-passes f (oneMinusUnit f w) (2 ^ places f - digits f w) (places f) (above (2 ^ places f) (digits f w) (digits-lt f w h)) (rest (2 ^ places f) (digits f w)) (shallow f) (one-minus-unit-exact f w h .value),
-  second-passes (unit f w) (digits f w) (places f) (digits-lt f w h) (unit-exact f w h .value),
-)

@@ -1,7 +1,7 @@
 -- What holds of the float lanes, in both formats. Proved in proofs/Theorems.antt, `QuarterNearest` as `quarter-nearest` and so on.
 use mathlib.Core.Bool.{Bool, true, false, not}
 use mathlib.Core.Path.{_≡_}
-use Prim.Native.Nat.{ℕ, _+_, _-_, _*_, _%_, _^_, _≤_, _<_}
+use Prim.Native.Nat.{ℕ, _+_, _-_, _*_, _%_, _^_, _≤_}
 use lib.Dec.{T}
 use lib.IntN.{ℤ, pos, negℤ, natAbs}
 use lib.Signed.{nonNeg}
@@ -10,14 +10,13 @@ use lib.Ieee.Exact.{HasValue}
 use lib.Ieee.Nearest.{closest}
 use mir.Syntax.{Width, w32, w64}
 use mir.Val.{hbits, ofZ}
-use Rattle.floats.specs.patterns.Domains.{reach, inReach, isU1, isU2}
+use Rattle.floats.specs.patterns.Domains.{reach, inReach}
 use Rattle.floats.specs.patterns.Numbers as numbers
 use Rattle.floats.specs.patterns.Numbers.{one}
 use Rattle.math.specs.BoxMuller.{minusTwice}
 use Rattle.math.specs.Ln.{ln}
 use Rattle.math.specs.Turns.{quarter, wholeQuarters}
 use Rattle.math.specs.Sqrt.{sqrt}
-use Rattle.floats.specs.units.Unit.{wide, unit, oneMinusUnit}
 
 -- n modulo 4, or - n modulo 4
 abbrev pub modulo4 : Bool → ℕ → ℕ
@@ -72,7 +71,3 @@ minusZero = fin true 0 (pos 0)
 
 abbrev pub AtOne : Type 0
 AtOne = (f : Format) → (ln f one ≡ numbers.zero) × (minusTwice f numbers.zero ≡ minusZero) × (sqrt f minusZero ≡ minusZero)
-
--- a unit is in Box-Muller's domain of u2, and 1 - unit in that of u1
-abbrev pub UnitsPass : Type 0
-UnitsPass = (f : Format) (w : ℕ) → w < 2 ^ wide f → T (isU1 f (oneMinusUnit f w)) × T (isU2 (unit f w))

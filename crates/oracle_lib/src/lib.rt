@@ -6,7 +6,7 @@ ghost use mathlib.Core.Path.{_≡_};
 ghost use lib.Ieee.{binary32, binary64, toBits};
 ghost use Rattle.math_f32.specs.calls.Calls as f32s;
 ghost use Rattle.math_f64.specs.calls.Calls as f64s;
-ghost use Rattle.floats.specs.units.Unit.{unit, oneMinusUnit};
+ghost use Rattle.floats.specs.units.Unit.{unit, oneMinusUnit, open01};
 
 #[no_mangle]
 pub extern "C" fn oracle_ln_f32(x: &[f32; 8], out: &mut [f32; 8]) -> u64
@@ -63,7 +63,7 @@ pub extern "C" fn oracle_box_muller_f32(
     answer.refusal
 }
 
-// The patterns of a unit float and of 1 less it.
+// The patterns of a unit float, of 1 less it, and of the unit that is never 0.
 #[no_mangle]
 pub extern "C" fn oracle_unit_f32(x: u32) -> u32
     ensures { λ r. ⌜ r ≡ toBits binary32 (unit binary32 x) ⌝ }
@@ -76,6 +76,13 @@ pub extern "C" fn oracle_one_minus_unit_f32(x: u32) -> u32
     ensures { λ r. ⌜ r ≡ toBits binary32 (oneMinusUnit binary32 x) ⌝ }
 {
     patterns::to_bits_f32(units::one_minus_unit_f32(x))
+}
+
+#[no_mangle]
+pub extern "C" fn oracle_open01_f32(x: u32) -> u32
+    ensures { λ r. ⌜ r ≡ toBits binary32 (open01 binary32 x) ⌝ }
+{
+    patterns::to_bits_f32(units::u32_to_open01_f32(x))
 }
 
 #[no_mangle]
@@ -133,7 +140,7 @@ pub extern "C" fn oracle_box_muller_f64(
     answer.refusal
 }
 
-// The patterns of a unit float and of 1 less it.
+// The patterns of a unit float, of 1 less it, and of the unit that is never 0.
 #[no_mangle]
 pub extern "C" fn oracle_unit_f64(x: u64) -> u64
     ensures { λ r. ⌜ r ≡ toBits binary64 (unit binary64 x) ⌝ }
@@ -146,4 +153,11 @@ pub extern "C" fn oracle_one_minus_unit_f64(x: u64) -> u64
     ensures { λ r. ⌜ r ≡ toBits binary64 (oneMinusUnit binary64 x) ⌝ }
 {
     patterns::to_bits_f64(units::one_minus_unit_f64(x))
+}
+
+#[no_mangle]
+pub extern "C" fn oracle_open01_f64(x: u64) -> u64
+    ensures { λ r. ⌜ r ≡ toBits binary64 (open01 binary64 x) ⌝ }
+{
+    patterns::to_bits_f64(units::u64_to_open01_f64(x))
 }

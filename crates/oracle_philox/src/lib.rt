@@ -5,7 +5,7 @@ use philox::x8::Philox4x32X8;
 use philox_fills::bytes;
 use philox_fills::typed;
 ghost use mathlib.Core.Path.{_≡_};
-ghost use Rattle.fills.specs.Kinds.{u64s, u32s, f32s, f64s, normalF32s, normalF64s};
+ghost use Rattle.fills.specs.Kinds.{u64s, u32s, f32s, f64s, normalF32s, normalF64s, open01F32s, open01F64s};
 ghost use Rattle.philox.specs.x8.Machine.{drawn, fresh, sought, grouped, leftOf};
 ghost use Rattle.philox_fills.specs.Labelled.{LabelledFill, LabelledBytes};
 ghost use Rattle.oracle_philox.specs.States.{counted, labelled, blocksOf};
@@ -450,6 +450,98 @@ pub extern "C" fn oracle_philox_fill_normal_f64(
         first: *first,
     };
     let f = typed::fill_normal_f64(g, out);
+    *from = f.label.first;
+    *upper = f.label.upper;
+    let rng = f.rng;
+    let k = rng.key;
+    let p = rng.pending;
+    *key = k;
+    *stream = rng.stream;
+    *counter = rng.counter;
+    *waiting = rng.waiting;
+    *pending = p;
+    *first = rng.first;
+    f.draws
+}
+
+#[no_mangle]
+pub extern "C" fn oracle_philox_fill_open01_f32(
+    key: &mut [u32; 2],
+    stream: &mut u64,
+    counter: &mut u64,
+    waiting: &mut bool,
+    pending: &mut [u64; 8],
+    first: &mut u64,
+    from: &mut u64,
+    upper: &mut bool,
+    out: &mut [f32],
+) -> u64
+    ensures { λ r. ⌜ LabelledFill open01F32s (counted (now (key .entry)) (now (stream .entry)) (now (counter .entry)) (now (waiting .entry))
+        (now (pending .entry)) (now (first .entry))) (now (out .entry)) (now (out .exit))
+        (record {
+          draws = r;
+          label = labelled (now (from .exit)) (now (upper .exit));
+          rng = counted (now (key .exit)) (now (stream .exit))
+              (now (counter .exit)) (now (waiting .exit)) (now (pending .exit)) (now (first .exit));
+        }) ⌝ }
+{
+    let k = *key;
+    let p = *pending;
+    let g = Philox4x32X8 {
+        key: k,
+        stream: *stream,
+        counter: *counter,
+        waiting: *waiting,
+        pending: p,
+        first: *first,
+    };
+    let f = typed::fill_open01_f32(g, out);
+    *from = f.label.first;
+    *upper = f.label.upper;
+    let rng = f.rng;
+    let k = rng.key;
+    let p = rng.pending;
+    *key = k;
+    *stream = rng.stream;
+    *counter = rng.counter;
+    *waiting = rng.waiting;
+    *pending = p;
+    *first = rng.first;
+    f.draws
+}
+
+#[no_mangle]
+pub extern "C" fn oracle_philox_fill_open01_f64(
+    key: &mut [u32; 2],
+    stream: &mut u64,
+    counter: &mut u64,
+    waiting: &mut bool,
+    pending: &mut [u64; 8],
+    first: &mut u64,
+    from: &mut u64,
+    upper: &mut bool,
+    out: &mut [f64],
+) -> u64
+    ensures { λ r. ⌜ LabelledFill open01F64s (counted (now (key .entry)) (now (stream .entry)) (now (counter .entry)) (now (waiting .entry))
+        (now (pending .entry)) (now (first .entry))) (now (out .entry)) (now (out .exit))
+        (record {
+          draws = r;
+          label = labelled (now (from .exit)) (now (upper .exit));
+          rng = counted (now (key .exit)) (now (stream .exit))
+              (now (counter .exit)) (now (waiting .exit)) (now (pending .exit)) (now (first .exit));
+        }) ⌝ }
+{
+    let k = *key;
+    let p = *pending;
+    let g = Philox4x32X8 {
+        key: k,
+        stream: *stream,
+        counter: *counter,
+        waiting: *waiting,
+        pending: p,
+        first: *first,
+    };
+    let f = typed::fill_open01_f64(g, out);
     *from = f.label.first;
     *upper = f.label.upper;
     let rng = f.rng;

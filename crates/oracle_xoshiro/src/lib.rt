@@ -7,7 +7,7 @@ use xoshiro_fills::typed;
 ghost use mathlib.Core.Path.{_≡_};
 ghost use Rattle.fills.specs.Fill.{Filled};
 ghost use Rattle.fills.specs.FillBytes.{FilledBytes};
-ghost use Rattle.fills.specs.Kinds.{u64s, u32s, f32s, f64s, normalF32s, normalF64s};
+ghost use Rattle.fills.specs.Kinds.{u64s, u32s, f32s, f64s, normalF32s, normalF64s, open01F32s, open01F64s};
 ghost use Rattle.xoshiro_steps.specs.Xoshiro256pp.{jumpPoly, longJumpPoly};
 ghost use Rattle.xoshiro.specs.scalar.Calls.{jumpedBy};
 ghost use Rattle.xoshiro.specs.x8.Calls.{drawn, placed, movedBlocks, engine};
@@ -221,6 +221,46 @@ pub extern "C" fn oracle_xoshiro_fill_normal_f64(s: &mut [[u64; 8]; 4], out: &mu
     let s3 = s[3];
     let g = Xoshiro256ppX8 { s0, s1, s2, s3 };
     let f = typed::fill_normal_f64(g, out);
+    let rng = f.rng;
+    let s0 = rng.s0;
+    let s1 = rng.s1;
+    let s2 = rng.s2;
+    let s3 = rng.s3;
+    let after = [s0, s1, s2, s3];
+    *s = after;
+    f.draws
+}
+
+#[no_mangle]
+pub extern "C" fn oracle_xoshiro_fill_open01_f32(s: &mut [[u64; 8]; 4], out: &mut [f32]) -> u64
+    ensures { λ r. ⌜ Filled engine open01F32s (ofRows (now (s .entry))) (now (out .entry)) (now (out .exit)) r (ofRows (now (s .exit))) ⌝ }
+{
+    let s0 = s[0];
+    let s1 = s[1];
+    let s2 = s[2];
+    let s3 = s[3];
+    let g = Xoshiro256ppX8 { s0, s1, s2, s3 };
+    let f = typed::fill_open01_f32(g, out);
+    let rng = f.rng;
+    let s0 = rng.s0;
+    let s1 = rng.s1;
+    let s2 = rng.s2;
+    let s3 = rng.s3;
+    let after = [s0, s1, s2, s3];
+    *s = after;
+    f.draws
+}
+
+#[no_mangle]
+pub extern "C" fn oracle_xoshiro_fill_open01_f64(s: &mut [[u64; 8]; 4], out: &mut [f64]) -> u64
+    ensures { λ r. ⌜ Filled engine open01F64s (ofRows (now (s .entry))) (now (out .entry)) (now (out .exit)) r (ofRows (now (s .exit))) ⌝ }
+{
+    let s0 = s[0];
+    let s1 = s[1];
+    let s2 = s[2];
+    let s3 = s[3];
+    let g = Xoshiro256ppX8 { s0, s1, s2, s3 };
+    let f = typed::fill_open01_f64(g, out);
     let rng = f.rng;
     let s0 = rng.s0;
     let s1 = rng.s1;

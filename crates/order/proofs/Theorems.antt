@@ -5,7 +5,9 @@ use mathlib.Core.Path.{_≡_, refl, sym, ap, _∙_}
 use Prim.Native.Nat.{ℕ, _+_, _-_, _^_, _≤_, _<_}
 use native.Mathlib.Omega.{arith}
 use lib.Dec.{eqb, leb, ltb}
+use lib.ListN.{length}
 use borrow.Author.Tests.{leb-true, eqb-true, eqb-false}
+use Rattle.fills.specs.Kinds.{kinds}
 use Rattle.text.proofs.decimal.Theorems.{number-sound}
 use Rattle.text.specs.decimal.Number.{numberAt}
 use Rattle.text.specs.declared.decimal.Number.{Number}
@@ -27,17 +29,25 @@ by-number P (Value v i) a b = b v i refl
 by-number P Wrong a b = a
 
 -- ---- the numbers of engines and kinds
+abbrev last : ℕ
+last = length kinds
+
 engine-known : (s : List ℕ) → engineOf s ≤ 2
 unfolding engineOf
 engine-known s = by-test (λ e. e ≤ 2) (startsWith words.xoshiro s) (λ _. omega arith) (λ _. by-test (λ e. e ≤ 2) (startsWith words.philox s) (λ _. omega arith) (λ _. omega arith))
 
-kind-known : (s : List ℕ) → kindOf s ≤ 6
+kind-known : (s : List ℕ) → kindOf s ≤ last
 unfolding kindOf numbered
 kind-known s =
-    named words.u64 (λ _. omega arith) (λ _. named words.u32 (λ _. omega arith) (λ _. named words.f32 (λ _. omega arith) (λ _. named words.f64 (λ _. omega arith) (λ _. named words.normalF32 (λ _. omega arith) (λ _. named words.normalF64 (λ _. omega arith) (λ _. by-number (λ k. k ≤ 6) (numberAt 6 0 s 0) (omega arith) (λ v i e. number-sound 6 0 s 0 v i e .1)))))))
+    named words.u64 (omega arith) (named words.u32 (omega arith) (named words.f32 (omega arith) (named words.f64 (omega arith)
+    (named words.normalF32 (omega arith) (named words.normalF64 (omega arith) (named words.open01F32 (omega arith)
+    (named words.open01F64 (omega arith) by-value)))))))
   where
-    named : (w : List ℕ) {x y : ℕ} → (startsWith w s ≡ true → x ≤ 6) → (startsWith w s ≡ false → y ≤ 6) → cond (startsWith w s) x y ≤ 6
-    named w f g = by-test (λ k. k ≤ 6) (startsWith w s) f g
+    named : (w : List ℕ) {x y : ℕ} → x ≤ last → y ≤ last → cond (startsWith w s) x y ≤ last
+    named w f g = by-test (λ k. k ≤ last) (startsWith w s) (λ _. f) (λ _. g)
+
+    by-value : numbered s ≤ last
+    by-value = by-number (λ k. k ≤ last) (numberAt last 0 s 0) (omega arith) (λ v i e. number-sound last 0 s 0 v i e .1)
 
 some : (n : ℕ) → (n ≡ 0 → ⊥) → 1 ≤ n
 some n h = omega arith

@@ -23,7 +23,11 @@ kindOf s =
     cond (startsWith words.u64 s) 1
     (cond (startsWith words.u32 s) 2
     (cond (startsWith words.f32 s) 3
-    (cond (startsWith words.f64 s) 4 (cond (startsWith words.normalF32 s) 5 (cond (startsWith words.normalF64 s) 6 (numbered s))))))
+    (cond (startsWith words.f64 s) 4
+    (cond (startsWith words.normalF32 s) 5
+    (cond (startsWith words.normalF64 s) 6
+    (cond (startsWith words.open01F32 s) 7
+    (cond (startsWith words.open01F64 s) 8 (numbered s))))))))
 
 -- the last block of an engine. A block of xoshiro is 8 jumps, counted modulo 2^64, so block 2^61 would be block 0 again; Philox has 2^64 streams
 unfoldable pub lastBlock : ℕ → ℕ

@@ -39,6 +39,13 @@ normalF32 = 110 ∷ 111 ∷ 114 ∷ 109 ∷ 97 ∷ 108 ∷ 95 ∷ 102 ∷ 51 ∷
 abbrev pub normalF64 : List ℕ
 normalF64 = 110 ∷ 111 ∷ 114 ∷ 109 ∷ 97 ∷ 108 ∷ 95 ∷ 102 ∷ 54 ∷ 52 ∷ 0 ∷ []
 
+-- open01_f32, open01_f64
+abbrev pub open01F32 : List ℕ
+open01F32 = 111 ∷ 112 ∷ 101 ∷ 110 ∷ 48 ∷ 49 ∷ 95 ∷ 102 ∷ 51 ∷ 50 ∷ 0 ∷ []
+
+abbrev pub open01F64 : List ℕ
+open01F64 = 111 ∷ 112 ∷ 101 ∷ 110 ∷ 48 ∷ 49 ∷ 95 ∷ 102 ∷ 54 ∷ 52 ∷ 0 ∷ []
+
 abbrev pub raw : List ℕ
 raw = 114 ∷ 97 ∷ 119 ∷ 0 ∷ []
 

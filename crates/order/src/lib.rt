@@ -90,6 +90,8 @@ fn kind_of(s: &[u8]) -> u64
     ensures { λ r. ⌜ r ≡ kindOf (now (s .entry)) ⌝ }
 {
     let k = numbered_kind(s);
+    let k = named(b"open01_f64\0", s, 8, k);
+    let k = named(b"open01_f32\0", s, 7, k);
     let k = named(b"normal_f64\0", s, 6, k);
     let k = named(b"normal_f32\0", s, 5, k);
     let k = named(b"f64\0", s, 4, k);

@@ -8,13 +8,15 @@ use crate::fill_words::labelled;
 use elements::f32s;
 use elements::f64s;
 use elements::groups;
+use elements::open01_f32s;
+use elements::open01_f64s;
 use elements::u32s;
 use normals::normal_f32s;
 use normals::normal_f64s;
 use philox::draws;
 use philox::x8::Philox4x32X8;
 ghost use Rattle.fills.specs.Fill.{Filled};
-ghost use Rattle.fills.specs.Kinds.{u32s, f32s, f64s, normalF32s, normalF64s};
+ghost use Rattle.fills.specs.Kinds.{u32s, f32s, f64s, normalF32s, normalF64s, open01F32s, open01F64s};
 ghost use Rattle.philox.specs.x8.Machine.{engine};
 ghost use Rattle.philox_fills.specs.Labelled.{LabelledFill};
 
@@ -254,4 +256,98 @@ pub fn fill_normal_f64(g: Philox4x32X8, out: &mut [f64]) -> Fill
         return labelled(g, fill_normal_f64_plain(g, out));
     }
     labelled(g, fill_normal_f64_ahead(g, out))
+}
+
+// Kind 7, draw by draw.
+fn fill_open01_f32_plain(g: Philox4x32X8, out: &mut [f32]) -> Made
+    ensures { λ r. ⌜ Filled engine open01F32s g (now (out .entry)) (now (out .exit)) (r .draws) (r .rng) ⌝ }
+{
+    let m = groups::groups_in(out.len(), 16);
+    let mut rng = g;
+    for j in 0..m {
+        let d = draws::draw(rng);
+        let w = d.words;
+        open01_f32s::put_group(out, j * 16, w);
+        rng = d.rng;
+    }
+    Made {
+        rng,
+        draws: m as u64,
+    }
+}
+
+// Kind 7, by way of a buffer of draws, many of which are made at once.
+fn fill_open01_f32_ahead(g: Philox4x32X8, out: &mut [f32]) -> Made
+    ensures { λ r. ⌜ Filled engine open01F32s g (now (out .entry)) (now (out .exit)) (r .draws) (r .rng) ⌝ }
+{
+    let mut rng = g;
+    let mut draws: u64 = 0;
+    let mut at = 0;
+    let mut buf = [0u64; 128];
+    while at < out.len() {
+        let q = groups::groups_of(out.len(), at, 16, 16);
+        let f = fill_buffer(rng, &mut buf, q);
+        open01_f32s::map_open01_f32(out, at, &buf);
+        rng = f.rng;
+        draws += f.draws;
+        at += q * 16;
+    }
+    Made { rng, draws }
+}
+
+// Kind 7: the units that are never 0 of kind 2.
+pub fn fill_open01_f32(g: Philox4x32X8, out: &mut [f32]) -> Fill
+    ensures { λ r. ⌜ LabelledFill open01F32s g (now (out .entry)) (now (out .exit)) r ⌝ }
+{
+    if out.len() < 128 {
+        return labelled(g, fill_open01_f32_plain(g, out));
+    }
+    labelled(g, fill_open01_f32_ahead(g, out))
+}
+
+// Kind 8, draw by draw.
+fn fill_open01_f64_plain(g: Philox4x32X8, out: &mut [f64]) -> Made
+    ensures { λ r. ⌜ Filled engine open01F64s g (now (out .entry)) (now (out .exit)) (r .draws) (r .rng) ⌝ }
+{
+    let m = groups::groups_in(out.len(), 8);
+    let mut rng = g;
+    for j in 0..m {
+        let d = draws::draw(rng);
+        let w = d.words;
+        open01_f64s::put_group(out, j * 8, w);
+        rng = d.rng;
+    }
+    Made {
+        rng,
+        draws: m as u64,
+    }
+}
+
+// Kind 8, by way of a buffer of draws, many of which are made at once.
+fn fill_open01_f64_ahead(g: Philox4x32X8, out: &mut [f64]) -> Made
+    ensures { λ r. ⌜ Filled engine open01F64s g (now (out .entry)) (now (out .exit)) (r .draws) (r .rng) ⌝ }
+{
+    let mut rng = g;
+    let mut draws: u64 = 0;
+    let mut at = 0;
+    let mut buf = [0u64; 128];
+    while at < out.len() {
+        let q = groups::groups_of(out.len(), at, 8, 16);
+        let f = fill_buffer(rng, &mut buf, q);
+        open01_f64s::map_open01_f64(out, at, &buf);
+        rng = f.rng;
+        draws += f.draws;
+        at += q * 8;
+    }
+    Made { rng, draws }
+}
+
+// Kind 8: the units that are never 0 of the words.
+pub fn fill_open01_f64(g: Philox4x32X8, out: &mut [f64]) -> Fill
+    ensures { λ r. ⌜ LabelledFill open01F64s g (now (out .entry)) (now (out .exit)) r ⌝ }
+{
+    if out.len() < 64 {
+        return labelled(g, fill_open01_f64_plain(g, out));
+    }
+    labelled(g, fill_open01_f64_ahead(g, out))
 }

@@ -179,7 +179,7 @@ fn refusals() {
     let refused = Xoshiro256ppX8::from_lanes(lanes);
     decimal(refused.refusal);
     refused_fill(0, &mut [0u8; 8]);
-    refused_fill(7, &mut [0u8; 8]);
+    refused_fill(9, &mut [0u8; 8]);
     refused_fill(5, &mut [0u8; 6]);
     refused_fill(6, &mut [0u8; 12]);
 }

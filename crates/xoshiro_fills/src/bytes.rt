@@ -4,16 +4,17 @@ use crate::fill_words::Fill;
 use elements::f32s;
 use elements::f64s;
 use elements::groups;
+use elements::open01_f32s;
 use elements::u32s;
 use elements::u64s;
 use fills::kinds;
 use normals::normal_f32s;
 use normals::normal_f64s;
 use xoshiro::x8::Xoshiro256ppX8;
-ghost use Rattle.fills.specs.Buffer.{bytesKind};
+ghost use Rattle.fills.specs.Buffer.{bytesKind, eitherF64s};
 ghost use Rattle.fills.specs.Fill.{Filled};
 ghost use Rattle.fills.specs.FillBytes.{FilledBytes};
-ghost use Rattle.fills.specs.Kinds.{u64s, u32s, f32s, f64s, normalF32s, normalF64s, kindAt};
+ghost use Rattle.fills.specs.Kinds.{u64s, u32s, f32s, normalF32s, normalF64s, open01F32s, kindAt};
 ghost use Rattle.xoshiro.specs.x8.Calls.{engine};
 
 // The generator after a byte fill; the number of its refusal, or 0, and its draws. (In this order: four words that are moved at once are then
@@ -78,16 +79,16 @@ fn fill_f32(g: Xoshiro256ppX8, out: &mut [u8]) -> Fill
     }
 }
 
-// Kind 4.
-fn fill_f64(g: Xoshiro256ppX8, out: &mut [u8]) -> Fill
-    ensures { λ r. ⌜ Filled engine (bytesKind f64s) g (now (out .entry)) (now (out .exit)) (r .draws) (r .rng) ⌝ }
+// Kinds 4 and 8.
+fn fill_f64(g: Xoshiro256ppX8, nonzero: bool, out: &mut [u8]) -> Fill
+    ensures { λ r. ⌜ Filled engine (bytesKind (eitherF64s nonzero)) g (now (out .entry)) (now (out .exit)) (r .draws) (r .rng) ⌝ }
 {
     let m = groups::groups_in(out.len(), 64);
     let mut rng = g;
     for j in 0..m {
         let d = rng.next_u64x8();
         let w = d.words;
-        f64s::put_bytes(out, j * 64, w);
+        f64s::put_bytes(out, j * 64, w, nonzero);
         rng = d.rng;
     }
     Fill {
@@ -135,6 +136,24 @@ fn fill_normal_f64(g: Xoshiro256ppX8, out: &mut [u8]) -> Fill
     }
 }
 
+// Kind 7.
+fn fill_open01_f32(g: Xoshiro256ppX8, out: &mut [u8]) -> Fill
+    ensures { λ r. ⌜ Filled engine (bytesKind open01F32s) g (now (out .entry)) (now (out .exit)) (r .draws) (r .rng) ⌝ }
+{
+    let m = groups::groups_in(out.len(), 64);
+    let mut rng = g;
+    for j in 0..m {
+        let d = rng.next_u64x8();
+        let w = d.words;
+        open01_f32s::put_bytes(out, j * 64, w);
+        rng = d.rng;
+    }
+    Fill {
+        rng,
+        draws: m as u64,
+    }
+}
+
 // The bytes of a kind, by way of a buffer of draws: many lanes of normals at a time are faster than eight.
 fn fill_ahead(g: Xoshiro256ppX8, kind: u64, out: &mut [u8]) -> Fill
     ensures { λ r. ⌜ Filled engine (bytesKind (kindAt kind .kind)) g (now (out .entry)) (now (out .exit)) (r .draws) (r .rng) ⌝ }
@@ -154,10 +173,13 @@ fn fill_ahead(g: Xoshiro256ppX8, kind: u64, out: &mut [u8]) -> Fill
     Fill { rng, draws }
 }
 
-// The bytes of a kind; called for the normals. A buffer is worth its while from eight draws on.
-fn fill_normals(g: Xoshiro256ppX8, kind: u64, out: &mut [u8]) -> Fill
+// The bytes of a kind; called for kinds 5, 6 and 7. For normals a buffer is worth its while from eight draws on.
+fn fill_apart(g: Xoshiro256ppX8, kind: u64, out: &mut [u8]) -> Fill
     ensures { λ r. ⌜ Filled engine (bytesKind (kindAt kind .kind)) g (now (out .entry)) (now (out .exit)) (r .draws) (r .rng) ⌝ }
 {
+    if kind == 7 {
+        return fill_open01_f32(g, out);
+    }
     if 512 <= out.len() {
         return fill_ahead(g, kind, out);
     }
@@ -170,7 +192,9 @@ fn fill_normals(g: Xoshiro256ppX8, kind: u64, out: &mut [u8]) -> Fill
     fill_ahead(g, kind, out)
 }
 
-// The bytes of a kind. (The normals are called with a copy and answer in a copy, so that the generator of the others need not be in memory.)
+// The bytes of a kind. (The loops of kinds 1 to 4 stand here, and that of kind 4 is that of kind 8: of more than four the compiler makes
+// poor ones where vectors are short. The other kinds are called with a copy and answer in a copy, so that the generator of these need not
+// be in memory.)
 fn fill_kind(g: Xoshiro256ppX8, kind: u64, out: &mut [u8]) -> Fill
     ensures { λ r. ⌜ Filled engine (bytesKind (kindAt kind .kind)) g (now (out .entry)) (now (out .exit)) (r .draws) (r .rng) ⌝ }
 {
@@ -180,21 +204,13 @@ fn fill_kind(g: Xoshiro256ppX8, kind: u64, out: &mut [u8]) -> Fill
     if kind == 3 {
         return fill_f32(g, out);
     }
-    if kind == 4 {
-        return fill_f64(g, out);
+    let nonzero = kind == 8;
+    if nonzero | (kind == 4) {
+        return fill_f64(g, nonzero, out);
     }
-    if kind == 5 {
+    if (5 <= kind) & (kind <= 7) {
         let h = g;
-        let f = fill_normals(h, 5, out);
-        let rng = f.rng;
-        return Fill {
-            rng,
-            draws: f.draws,
-        };
-    }
-    if kind == 6 {
-        let h = g;
-        let f = fill_normals(h, 6, out);
+        let f = fill_apart(h, kind, out);
         let rng = f.rng;
         return Fill {
             rng,

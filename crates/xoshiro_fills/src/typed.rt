@@ -6,12 +6,14 @@ pub use crate::fill_words::fill_u64;
 use elements::f32s;
 use elements::f64s;
 use elements::groups;
+use elements::open01_f32s;
+use elements::open01_f64s;
 use elements::u32s;
 use normals::normal_f32s;
 use normals::normal_f64s;
 use xoshiro::x8::Xoshiro256ppX8;
 ghost use Rattle.fills.specs.Fill.{Filled};
-ghost use Rattle.fills.specs.Kinds.{u32s, f32s, f64s, normalF32s, normalF64s};
+ghost use Rattle.fills.specs.Kinds.{u32s, f32s, f64s, normalF32s, normalF64s, open01F32s, open01F64s};
 ghost use Rattle.xoshiro.specs.x8.Calls.{engine};
 
 // Kind 2: their low halves, then their high halves.
@@ -163,4 +165,40 @@ pub fn fill_normal_f64(g: Xoshiro256ppX8, out: &mut [f64]) -> Fill
         return fill_normal_f64_plain(g, out);
     }
     fill_normal_f64_ahead(g, out)
+}
+
+// Kind 7: the units that are never 0 of kind 2.
+pub fn fill_open01_f32(g: Xoshiro256ppX8, out: &mut [f32]) -> Fill
+    ensures { λ r. ⌜ Filled engine open01F32s g (now (out .entry)) (now (out .exit)) (r .draws) (r .rng) ⌝ }
+{
+    let m = groups::groups_in(out.len(), 16);
+    let mut rng = g;
+    for j in 0..m {
+        let d = rng.next_u64x8();
+        let w = d.words;
+        open01_f32s::put_group(out, j * 16, w);
+        rng = d.rng;
+    }
+    Fill {
+        rng,
+        draws: m as u64,
+    }
+}
+
+// Kind 8: the units that are never 0 of the words.
+pub fn fill_open01_f64(g: Xoshiro256ppX8, out: &mut [f64]) -> Fill
+    ensures { λ r. ⌜ Filled engine open01F64s g (now (out .entry)) (now (out .exit)) (r .draws) (r .rng) ⌝ }
+{
+    let m = groups::groups_in(out.len(), 8);
+    let mut rng = g;
+    for j in 0..m {
+        let d = rng.next_u64x8();
+        let w = d.words;
+        open01_f64s::put_group(out, j * 8, w);
+        rng = d.rng;
+    }
+    Fill {
+        rng,
+        draws: m as u64,
+    }
 }

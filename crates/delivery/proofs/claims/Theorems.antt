@@ -55,7 +55,9 @@ few-at (suc (suc zero)) n h = omega arith
 few-at (suc (suc (suc zero))) n h = omega arith
 few-at (suc (suc (suc (suc zero)))) n h = omega arith
 few-at (suc (suc (suc (suc (suc zero))))) n h = omega arith
-few-at (suc (suc (suc (suc (suc (suc i)))))) n h = omega arith
+few-at (suc (suc (suc (suc (suc (suc zero)))))) n h = omega arith
+few-at (suc (suc (suc (suc (suc (suc (suc zero))))))) n h = omega arith
+few-at (suc (suc (suc (suc (suc (suc (suc (suc i)))))))) n h = omega arith
 
 few-draws : (o : Order) → Accepted o → o .draws < 2 ^ 64
 unfolding kindAt

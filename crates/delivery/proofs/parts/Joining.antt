@@ -71,7 +71,9 @@ whole-at (suc (suc zero)) = refl
 whole-at (suc (suc (suc zero))) = refl
 whole-at (suc (suc (suc (suc zero)))) = refl
 whole-at (suc (suc (suc (suc (suc zero))))) = refl
-whole-at (suc (suc (suc (suc (suc (suc i)))))) = refl
+whole-at (suc (suc (suc (suc (suc (suc zero)))))) = refl
+whole-at (suc (suc (suc (suc (suc (suc (suc zero))))))) = refl
+whole-at (suc (suc (suc (suc (suc (suc (suc (suc i)))))))) = refl
 
 pub whole-16 : (k n : ℕ) → n % 16 ≡ 0 → n % groupOf k ≡ 0
 unfolding kindAt

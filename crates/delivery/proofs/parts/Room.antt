@@ -19,7 +19,9 @@ width-at (suc (suc zero)) = lit≤ tt
 width-at (suc (suc (suc zero))) = lit≤ tt
 width-at (suc (suc (suc (suc zero)))) = lit≤ tt
 width-at (suc (suc (suc (suc (suc zero))))) = lit≤ tt
-width-at (suc (suc (suc (suc (suc (suc i)))))) = lit≤ tt
+width-at (suc (suc (suc (suc (suc (suc zero)))))) = lit≤ tt
+width-at (suc (suc (suc (suc (suc (suc (suc zero))))))) = lit≤ tt
+width-at (suc (suc (suc (suc (suc (suc (suc (suc i)))))))) = lit≤ tt
 
 pub width-most : (k : ℕ) → widthOf k ≤ 8
 unfolding kindAt

@@ -26,11 +26,25 @@ unfolding kindAt
 returns-5 c = let m = c .before .before in grouped-by _ _ _ _ 6 (m .before .before .if5 .taken) (m .put-bytes5 .ensures)
 
 returns-6 : tie.Need-returns-6
-returns-6 c =
+unfolding kindAt
+returns-6 c = let m = c .before .before in grouped-by _ _ _ _ 7 (m .before .before .if6 .taken) (m .put-bytes6 .ensures)
+
+returns-7 : tie.Need-returns-7
+unfolding kindAt
+returns-7 c = let m = c .before .before in grouped-by _ _ _ _ 8 (m .before .before .if7 .taken) (m .put-bytes7 .ensures)
+
+returns-8 : tie.Need-returns-8
+returns-8 c =
     let m = c .before .before in
     let i = m .before .before in
-    grouped-other _ _ _ _ (i .before .before .before .before .if1 .left) (i .before .before .before .if2 .left) (i .before .before .if3 .left) (i .before .if4 .left) (i .if5 .left)
-    (m .put-bytes6 .ensures)
+    let j = i .before .before .before in
+    grouped-other _ _ _ _ (j .before .before .before .if1 .left) (j .before .before .if2 .left) (j .before .if3 .left) (j .if4 .left)
+    (i .before .before .if5 .left) (i .before .if6 .left) (i .if7 .left) (m .put-bytes8 .ensures)
 
 pub put-group-spec : {M : Type 1} → statement M
-put-group-spec = tie.close (tie.spec (λ c κs. search needs) (λ c. search needs) returns (λ c κs. search needs) (λ c. search needs) returns-2 (λ c κs. search needs) (λ c. search needs) returns-3 (λ c κs. search needs) (λ c. search needs) returns-4 (λ c κs. search needs) (λ c. search needs) returns-5 (λ c κs. search needs) (λ c. search needs) returns-6)
+put-group-spec =
+    tie.close (tie.spec (λ c κs. search needs) (λ c. search needs) returns (λ c κs. search needs) (λ c. search needs) returns-2
+    (λ c κs. search needs) (λ c. search needs) returns-3 (λ c κs. search needs) (λ c. search needs) returns-4 (λ c κs. search needs)
+    (λ c. search needs) returns-5
+    (λ c κs. search needs) (λ c. search needs) returns-6 (λ c κs. search needs) (λ c. search needs) returns-7 (λ c κs. search needs)
+    (λ c. search needs) returns-8)

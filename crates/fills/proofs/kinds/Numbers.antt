@@ -11,25 +11,29 @@ use Rattle.fills.specs.FillBytes.{refusalOf}
 use Rattle.fills.specs.Kinds.{AnyKind, kinds, kindAt, isKind, of, u64s}
 
 -- kind 1 stands for the numbers that are no kind's
-pub past-6 : (k : ℕ) → kindAt (suc (suc (suc (suc (suc (suc (suc k))))))) ≡ of u64s
+pub past-8 : (k : ℕ) → kindAt (suc (suc (suc (suc (suc (suc (suc (suc (suc k))))))))) ≡ of u64s
 unfolding kindAt
-past-6 k = let e : suc (suc (suc (suc (suc (suc (suc k)))))) - 1 ≡ suc (suc (suc (suc (suc (suc k))))) = omega arith in ap (λ (n : ℕ). getD kinds n (of u64s)) e
+past-8 k =
+    let e : suc (suc (suc (suc (suc (suc (suc (suc (suc k)))))))) - 1 ≡ suc (suc (suc (suc (suc (suc (suc (suc k))))))) = omega arith in
+    ap (λ (n : ℕ). getD kinds n (of u64s)) e
 
 -- ---- an element's bytes
 pub width-4 : (k n : ℕ) → k ≡ n → kindAt n .kind .width ≡ 4 → 4 ≡ kindAt k .kind .width
 width-4 k n e q = sym (ap (λ (m : ℕ). kindAt m .kind .width) e ∙ q)
 
--- kinds 1, 4 and 6, and numbers that are no kind's: 8
-pub width-8 : (k : ℕ) → (k ≡ 2 → ⊥) → (k ≡ 3 → ⊥) → (k ≡ 5 → ⊥) → 8 ≡ kindAt k .kind .width
+-- kinds 1, 4, 6 and 8, and numbers that are no kind's: 8
+pub width-8 : (k : ℕ) → (k ≡ 2 → ⊥) → (k ≡ 3 → ⊥) → (k ≡ 5 → ⊥) → (k ≡ 7 → ⊥) → 8 ≡ kindAt k .kind .width
 unfolding kindAt
-width-8 zero a b c = refl
-width-8 (suc zero) a b c = refl
-width-8 (suc (suc zero)) a b c = absurd (a refl)
-width-8 (suc (suc (suc zero))) a b c = absurd (b refl)
-width-8 (suc (suc (suc (suc zero)))) a b c = refl
-width-8 (suc (suc (suc (suc (suc zero))))) a b c = absurd (c refl)
-width-8 (suc (suc (suc (suc (suc (suc zero)))))) a b c = refl
-width-8 (suc (suc (suc (suc (suc (suc (suc k))))))) a b c = ap (λ (L : AnyKind). L .kind .width) (sym (past-6 k))
+width-8 zero a b c d = refl
+width-8 (suc zero) a b c d = refl
+width-8 (suc (suc zero)) a b c d = absurd (a refl)
+width-8 (suc (suc (suc zero))) a b c d = absurd (b refl)
+width-8 (suc (suc (suc (suc zero)))) a b c d = refl
+width-8 (suc (suc (suc (suc (suc zero))))) a b c d = absurd (c refl)
+width-8 (suc (suc (suc (suc (suc (suc zero)))))) a b c d = refl
+width-8 (suc (suc (suc (suc (suc (suc (suc zero))))))) a b c d = absurd (d refl)
+width-8 (suc (suc (suc (suc (suc (suc (suc (suc zero)))))))) a b c d = refl
+width-8 (suc (suc (suc (suc (suc (suc (suc (suc (suc k))))))))) a b c d = ap (λ (L : AnyKind). L .kind .width) (sym (past-8 k))
 
 -- ---- the draws of n places: kind 6; elements of 4 bytes; the others
 pub draws-6 : (k n : ℕ) → k ≡ 6 → 2 * roundUp n 16 ≡ drawsFor (kindAt k .kind) n
@@ -48,7 +52,10 @@ draws-4 (suc (suc (suc zero))) n e = omega arith
 draws-4 (suc (suc (suc (suc zero)))) n e = absurd (not-4 e)
 draws-4 (suc (suc (suc (suc (suc zero))))) n e = omega arith
 draws-4 (suc (suc (suc (suc (suc (suc zero)))))) n e = absurd (not-4 e)
-draws-4 (suc (suc (suc (suc (suc (suc (suc k))))))) n e = absurd (not-4 (ap (λ (L : AnyKind). L .kind .width) (sym (past-6 k)) ∙ e))
+draws-4 (suc (suc (suc (suc (suc (suc (suc zero))))))) n e = omega arith
+draws-4 (suc (suc (suc (suc (suc (suc (suc (suc zero)))))))) n e = absurd (not-4 e)
+draws-4 (suc (suc (suc (suc (suc (suc (suc (suc (suc k))))))))) n e =
+    absurd (not-4 (ap (λ (L : AnyKind). L .kind .width) (sym (past-8 k)) ∙ e))
 
 pub draws-8 : (k n : ℕ) → (k ≡ 6 → ⊥) → (kindAt k .kind .width ≡ 4 → ⊥) → roundUp n 8 ≡ drawsFor (kindAt k .kind) n
 unfolding kindAt
@@ -59,9 +66,11 @@ draws-8 (suc (suc (suc zero))) n h w = absurd (w refl)
 draws-8 (suc (suc (suc (suc zero)))) n h w = omega arith
 draws-8 (suc (suc (suc (suc (suc zero))))) n h w = absurd (w refl)
 draws-8 (suc (suc (suc (suc (suc (suc zero)))))) n h w = absurd (h refl)
-draws-8 (suc (suc (suc (suc (suc (suc (suc k))))))) n h w =
+draws-8 (suc (suc (suc (suc (suc (suc (suc zero))))))) n h w = absurd (w refl)
+draws-8 (suc (suc (suc (suc (suc (suc (suc (suc zero)))))))) n h w = omega arith
+draws-8 (suc (suc (suc (suc (suc (suc (suc (suc (suc k))))))))) n h w =
     let one : roundUp n 8 ≡ drawsFor u64s n = omega arith in
-    one ∙ ap (λ (L : AnyKind). drawsFor (L .kind) n) (sym (past-6 k))
+    one ∙ ap (λ (L : AnyKind). drawsFor (L .kind) n) (sym (past-8 k))
 
 -- ---- the refusal for n bytes, by the tests that the code makes
 module _ (k n : ℕ) {b : Bool} (e : b ≡ isKind k) where

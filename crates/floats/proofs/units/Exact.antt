@@ -3,14 +3,17 @@ use mathlib.Core.Path.{_≡_, refl, sym, ap, _∙_, subst}
 use Prim.Native.Nat.{ℕ, suc, _+_, _-_, _*_, _/_, _%_, _^_, _≤_, _<_}
 use native.Mathlib.Nat.{lt-of-le-of-lt, lt-of-mul-lt-mul-right, mul-lt-mul-of-pos-right}
 use native.Mathlib.Nat.{le-trans, le-of-eq, not-le-of-lt, le-of-mul-le-mul-right, mul-le-mul-right, mul-comm, mul-assoc, mul-one, one-mul, mul-pos, mul-mul-mul-comm, mul-right-comm, lt-of-lt-of-le, zero-lt-suc, eq-or-lt-of-le, mul-sub, eq-of-mul-eq-mul-right}
-use borrow.Author.Tests.{lt-leb, lt-ltb}
+use borrow.Author.Tests.{lt-leb, le-ltb, lt-ltb}
 use native.Mathlib.Omega.{arith}
 use mathlib.Core.Logic.{_⊎_, inl, inr}
-use mathlib.Core.Bool.{Bool, true, false, cond, true≢false}
+use mathlib.Core.Bool.{Bool, true, false, cond, not, true≢false}
+use lib.Bits.{bitOr, or-shifted-r}
 use lib.IntN.{ℤ, pos}
 use lib.Dec.{T, ltb, leb, ltb→lt, le→leb, lit<, lit≤}
 use lib.Pow.{pow-add, pow-pos, pow-mono, pow-lt, shl-lt}
-use lib.Ieee.{Float, fin, Format, binary32, binary64, prec, emax, low, up, down, unlike, round, mul, sub, sum, ofInt, inFloat, hid, top, odd, ofFields, ofBits}
+use lib.Ieee.{Float, fin, Format, binary32, binary64, prec, emax, low, up, down, unlike, round, mul, sub, sum, ofInt}
+use lib.Ieee.{inFloat, hid, ones, top, odd, ofFields, ofBits, nanBits}
+use lib.Ieee.Bits.{nanBits-above}
 use lib.Ieee.Fits.{down-pos}
 use lib.Ieee.Exact.{HasValue, round-exact, odd-sign}
 use lib.Ieee.Scale.{round-same}
@@ -188,3 +191,30 @@ above-one f t h =
     (rescale (odd (prec f) false (hid f + t) (emax f - 1) (low f)) false ((hid f + t) * 2 ^ (emax f - 1)) (2 ^ low f) (hid f + t) (hid f) (pow-pos (low f))
     (ap (λ (x : ℕ). (hid f + t) * x) (weights f) ∙ sym (mul-assoc (hid f + t) (2 ^ (emax f - 1)) (hid f)))
     (odd-sign (prec f) false (hid f + t) (emax f - 1) (low f)))
+
+-- ---- as the functions make it: the digits t set in the pattern of 1 by a bitwise or
+pub with-digits : (f : Format) (t : ℕ) → t < hid f → bitOr t (emax f * hid f) ≡ emax f * hid f + t
+with-digits f t h = or-shifted-r (emax f) (prec f - 1) t h
+
+-- it is no NaN's
+pub is-number : (f : Format) (t : ℕ) → t < hid f → T (not (nanBits f (bitOr t (emax f * hid f))))
+is-number f t h =
+    let b = emax f * hid f + t in
+    subst (λ (n : ℕ). T (not (nanBits f n))) (sym (with-digits f t h))
+    (subst (λ (u : Bool). T (not u)) (sym (nanBits-above f b ∙ le-ltb (ones f * hid f) (b % top f) (below f t h))) tt)
+  where
+    below : (f : Format) (t : ℕ) → t < hid f → (emax f * hid f + t) % top f ≤ ones f * hid f
+    below binary32 t h = omega arith
+    below binary64 t h = omega arith
+
+-- 1 + t / hid, less the fraction c / 2^k, is n / 2^k: nothing is rounded where the format keeps n
+pub down-from : (f : Format) (t k n c : ℕ) (y : Float) → t < hid f → k ≤ low f → n ≤ 2 ^ prec f
+    → (n + c) * hid f ≡ (hid f + t) * 2 ^ k → HasValue y false c (2 ^ k) → Exactly f n k (sub f (ofBits f (bitOr t (emax f * hid f))) y)
+down-from f t k n c y h l b e v =
+    let x = ofBits f (emax f * hid f + t) in
+    let above : HasValue x false (n + c) (2 ^ k) = rescale x false (hid f + t) (hid f) (n + c) (2 ^ k) (pow-pos (prec f - 1)) e
+    (above-one f t h) in
+    let less : n + c - c ≡ n = omega arith in
+    subst (λ (p : ℕ). Exactly f n k (sub f (ofBits f p) y)) (sym (with-digits f t h))
+    (subst (λ (m : ℕ). Exactly f m k (sub f x y)) less
+    (lessened f x y (n + c) c k (subst (λ (m : ℕ). m ≤ 2 ^ prec f) (sym less) b) l (omega arith) above v))

@@ -7,7 +7,7 @@ use contract.Lifetimes.{Lfts}
 use borrow.Fn.Kinds.{Dens}
 use denote.Ref.{now}
 use lib.ListN.{length}
-use Rattle.fills.specs.Kinds.{u64s, u32s, f32s, f64s, normalF32s, normalF64s}
+use Rattle.fills.specs.Kinds.{u64s, u32s, f32s, f64s, normalF32s, normalF64s, open01F32s, open01F64s}
 use Rattle.philox.specs.draws.Draws.{drawsAtOnce}
 use Rattle.philox.specs.x8.Machine.{fresh, labelOf, leftOf}
 use Rattle.philox.proofs.draws.draw.Reads as draw-reads
@@ -29,6 +29,8 @@ use Rattle.philox_fills.proofs.typed.fill_f32.Reads as fill-f32-reads
 use Rattle.philox_fills.proofs.typed.fill_f64.Reads as fill-f64-reads
 use Rattle.philox_fills.proofs.typed.fill_normal_f32.Reads as fill-normal-f32-reads
 use Rattle.philox_fills.proofs.typed.fill_normal_f64.Reads as fill-normal-f64-reads
+use Rattle.philox_fills.proofs.typed.fill_open01_f32.Reads as fill-open01-f32-reads
+use Rattle.philox_fills.proofs.typed.fill_open01_f64.Reads as fill-open01-f64-reads
 use Rattle.history.specs.Contracts.{Says}
 use Rattle.history.specs.philox4x32.Calls.{draw, group, seek, fill, bytes, many, skip, Step}
 
@@ -57,6 +59,10 @@ pub record PhiloxShips : Type 1 where
       (λ κs a r e. Step (a .0) (fill normalF32s (now (a .1 .0)) (now (e .1 .0)) r))
   pub fill-normal-f64 : Says fill-normal-f64-reads.Asked fill-normal-f64-reads.Learnt
       (λ κs a r e. Step (a .0) (fill normalF64s (now (a .1 .0)) (now (e .1 .0)) r))
+  pub fill-open01-f32 : Says fill-open01-f32-reads.Asked fill-open01-f32-reads.Learnt
+      (λ κs a r e. Step (a .0) (fill open01F32s (now (a .1 .0)) (now (e .1 .0)) r))
+  pub fill-open01-f64 : Says fill-open01-f64-reads.Asked fill-open01-f64-reads.Learnt
+      (λ κs a r e. Step (a .0) (fill open01F64s (now (a .1 .0)) (now (e .1 .0)) r))
   pub fill-bytes : Says fill-bytes-reads.Asked fill-bytes-reads.Learnt
       (λ κs a r e. Step (a .0) (bytes (a .1 .0) (now (a .1 .1 .0)) (now (e .1 .1 .0)) r))
   -- many draws at once: the one that waits, or as many whole groups as there is room for

@@ -4,7 +4,7 @@ use mathlib.Core.Path.{_≡_}
 use Prim.Native.Nat.{_/_, min}
 use denote.Ref.{now}
 use lib.ListN.{length}
-use Rattle.fills.specs.Kinds.{u64s, u32s, f32s, f64s, normalF32s, normalF64s}
+use Rattle.fills.specs.Kinds.{u64s, u32s, f32s, f64s, normalF32s, normalF64s, open01F32s, open01F64s}
 use Rattle.saved.specs.fields.Fields.{sizeOf}
 use Rattle.saved.specs.fields.Saved.{Saved}
 use Rattle.saved.specs.xoshiro256pp.Form.{layout, formOf, loaded}
@@ -26,6 +26,8 @@ use Rattle.xoshiro_fills.proofs.typed.fill_f32.Reads as fill-f32-reads
 use Rattle.xoshiro_fills.proofs.typed.fill_f64.Reads as fill-f64-reads
 use Rattle.xoshiro_fills.proofs.typed.fill_normal_f32.Reads as fill-normal-f32-reads
 use Rattle.xoshiro_fills.proofs.typed.fill_normal_f64.Reads as fill-normal-f64-reads
+use Rattle.xoshiro_fills.proofs.typed.fill_open01_f32.Reads as fill-open01-f32-reads
+use Rattle.xoshiro_fills.proofs.typed.fill_open01_f64.Reads as fill-open01-f64-reads
 use Rattle.history.specs.Contracts.{Says}
 use Rattle.history.specs.xoshiro256pp.Calls.{draw, fill, bytes, move, many, skip, Step}
 
@@ -50,6 +52,10 @@ pub record XoshiroShips : Type 1 where
       (λ κs a r e. Step (a .0) (fill normalF32s (now (a .1 .0)) (now (e .1 .0)) r))
   pub fill-normal-f64 : Says fill-normal-f64-reads.Asked fill-normal-f64-reads.Learnt
       (λ κs a r e. Step (a .0) (fill normalF64s (now (a .1 .0)) (now (e .1 .0)) r))
+  pub fill-open01-f32 : Says fill-open01-f32-reads.Asked fill-open01-f32-reads.Learnt
+      (λ κs a r e. Step (a .0) (fill open01F32s (now (a .1 .0)) (now (e .1 .0)) r))
+  pub fill-open01-f64 : Says fill-open01-f64-reads.Asked fill-open01-f64-reads.Learnt
+      (λ κs a r e. Step (a .0) (fill open01F64s (now (a .1 .0)) (now (e .1 .0)) r))
   pub fill-bytes : Says fill-bytes-reads.Asked fill-bytes-reads.Learnt
       (λ κs a r e. Step (a .0) (bytes (a .1 .0) (now (a .1 .1 .0)) (now (e .1 .1 .0)) r))
   -- many draws at once: as many as are asked for, or as there is room for

@@ -2,7 +2,7 @@
 use Rattle.base.proofs.Bytes.{flat-map}
 use Rattle.base.specs.Bytes.{leBytes, flat}
 use Rattle.base.specs.Stored.{stored}
-use Rattle.floats.specs.units.Unit.{unit}
+use Rattle.floats.specs.units.Unit.{unitOf}
 use borrow.Author.Needs.{needs}
 use lib.Ieee.{binary64, toBits}
 use mathlib.Core.List.{map}
@@ -14,9 +14,10 @@ returns : tie.Need-returns
 returns c =
     let p = c .before .before in
     let b = p .before in
-    let w = b .before .before .before .before .args .w in
+    let a = b .before .before .before .before .args in
     p .put-words .ensures
-    ∙ ap (stored _ _) (ap (flat (leBytes 8)) (b .bits-f64 .ensures ∙ ap (map (toBits binary64)) (b .before .units-f64 .ensures)) ∙ flat-map (leBytes 8) (toBits binary64) (map (unit binary64) w))
+    ∙ ap (stored _ _) (ap (flat (leBytes 8)) (b .bits-f64 .ensures ∙ ap (map (toBits binary64)) (b .before .either-f64 .ensures))
+    ∙ flat-map (leBytes 8) (toBits binary64) (map (unitOf binary64 (a .nonzero)) (a .w)))
 
 pub put-bytes-spec : {M : Type 1} → statement M
 put-bytes-spec = tie.close (tie.spec (λ c κs. search needs) (λ c κs. search needs) (λ c κs. search needs) (λ c. search needs) returns)

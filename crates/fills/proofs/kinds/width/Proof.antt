@@ -19,7 +19,17 @@ unfolding kindAt
 returns-3 c = (width-4 _ 5 (c .if3 .taken) refl, lit< tt, lit≤ tt, λ h. absurd (h refl))
 
 returns-4 : tie.Need-returns-4
-returns-4 c = (width-8 _ (c .before .before .if1 .left) (c .before .if2 .left) (c .if3 .left), lit< tt, lit≤ tt, λ h. refl)
+unfolding kindAt
+returns-4 c = (width-4 _ 7 (c .if4 .taken) refl, lit< tt, lit≤ tt, λ h. absurd (h refl))
+
+returns-5 : tie.Need-returns-5
+returns-5 c = (
+  width-8 _ (c .before .before .before .if1 .left) (c .before .before .if2 .left) (c .before .if3 .left)
+      (c .if4 .left),
+  lit< tt,
+  lit≤ tt,
+  λ h. refl,
+)
 
 pub width-spec : {M : Type 1} → statement M
-width-spec = tie.close (tie.spec returns returns-2 returns-3 returns-4)
+width-spec = tie.close (tie.spec returns returns-2 returns-3 returns-4 returns-5)

@@ -2,9 +2,8 @@
 use Prim.Native.Nat.{_-_}
 use Rattle.fills.proofs.Bytes.{bytes-sound}
 use Rattle.fills.proofs.Draws.{Turning, turns-none, one-draw, turns-end}
-use Rattle.fills.proofs.Sounds.{f64s-sound}
-use Rattle.fills.specs.Buffer.{bytesKind}
-use Rattle.fills.specs.Kinds.{f64s}
+use Rattle.fills.proofs.Sounds.{either-f64s-sound}
+use Rattle.fills.specs.Buffer.{bytesKind, eitherF64s}
 use Rattle.xoshiro.proofs.x8.Theorems.{eight-words}
 use Rattle.xoshiro.specs.x8.Calls.{drawn, engine}
 use Rattle.xoshiro.specs.declared.x8.Draw.{Draw}
@@ -15,17 +14,24 @@ use Rattle.xoshiro_fills.proofs.bytes.fill_f64.Statement.{statement}
 use Rattle.xoshiro_fills.proofs.bytes.fill_f64.Tie as tie
 
 abbrev Inv-loop : tie.InvT-loop
-Inv-loop out₀ m rng₀ j₀ out rng j = Turning engine (bytesKind f64s) rng₀ out₀ m out j rng
+Inv-loop nonzero out₀ m rng₀ j₀ out rng j = Turning engine (bytesKind (eitherF64s nonzero)) rng₀ out₀ m out j rng
 
 abbrev μ-loop : tie.MeasureT-loop
-μ-loop out₀ m rng₀ j₀ out rng j = m - j
+μ-loop nonzero out₀ m rng₀ j₀ out rng j = m - j
 
 loop-again : tie.Need-loop-again Inv-loop μ-loop
 unfolding drawn
 loop-again c =
     let p = c .before .before .before in
     let d = p .before .before .before in
-    one-draw refl (d .before .before .loop .inv) (d .before .loop-test .taken) (ap (λ (x : Draw). x .words) (d .next-u64x8 .ensures)) (ap (λ (x : Draw). x .rng) (d .next-u64x8 .ensures)) (p .put-bytes .ensures)
+    one-draw refl (d .before .before .loop .inv) (d .before .loop-test .taken) (ap (λ (x : Draw). x .words) (d .next-u64x8 .ensures))
+    (ap (λ (x : Draw). x .rng) (d .next-u64x8 .ensures)) (p .put-bytes .ensures)
 
 pub fill-f64-spec : {M : Type 1} → statement M
-fill-f64-spec = tie.close (tie.spec Inv-loop μ-loop (λ c κs. search needs) (λ c. turns-none eight-words (bytes-sound f64s f64s-sound (omega arith)) (c .groups-in .ensures)) (λ c κs. search needs) (λ c. search needs) (λ c κs. search needs) (λ c. search needs) (λ c. search needs) loop-again (λ c. search needs) (λ c. turns-end (c .before .loop .inv) (c .loop-test .left) (search needs)))
+fill-f64-spec =
+    tie.close (tie.spec Inv-loop μ-loop (λ c κs. search needs)
+    (λ c. let a = c .before .before .args in turns-none eight-words
+    (bytes-sound (eitherF64s (a .nonzero)) (either-f64s-sound (a .nonzero)) (omega arith)) (c .groups-in .ensures))
+    (λ c κs. search needs) (λ c. search needs) (λ c κs. search needs)
+    (λ c. search needs) (λ c. search needs) loop-again (λ c. search needs) (λ c. turns-end (c .before .loop .inv) (c .loop-test .left)
+    (search needs)))
