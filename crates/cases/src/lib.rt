@@ -1,1 +1,2 @@
 // No code: worked cases, proved from the definitions (specs/Claims.antt).
+#![tactic(auto)]

@@ -6,7 +6,7 @@ use philox_fills::{bytes, typed};
 
 // What the model hands back besides its slices: the words of its last draw, and their label; its draws since the seek; the number of the
 // byte fill's refusal, or 0; and the generator after it.
-#[derive(Drop)]
+#[derive(Clone, Copy)]
 pub struct Outcome {
     pub words: [u64; 8],
     pub label: Label,

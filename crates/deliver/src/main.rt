@@ -1,6 +1,8 @@
 // An order in, its numbers out: deliver ENGINE SEED BLOCK FIRST KIND COUNT [raw]. What an order is, what is written and what the closing
 // line says is decided by `order` and by `delivery::parts`, and proved there: here the arguments are taken, and what those functions hand
 // out is written. No contract can say what a program reads or writes, so that a function that only does that promises nothing.
+#![tactic(auto)]
+
 ghost use Rattle.std.specs.Prelude.{true, ◌≡◌, ◌≤◌, length};
 ghost use Rattle.fills.specs.Kinds.{kinds};
 ghost use Rattle.order.specs.Claims.{Accepted};
@@ -23,7 +25,7 @@ fn told(ok: bool) -> bool
 }
 
 // What is left of a delivery, and whether all of it was written: no write failed, and so nothing is left.
-#[derive(Drop)]
+#[derive(Clone, Copy)]
 struct Written {
     whole: bool,
     rest: Delivery,

@@ -14,7 +14,7 @@ use text::lines;
 
 // The places of a kind that are still to come, and the source that they are drawn from; whether they are written as bytes or as lines;
 // and for the closing line, the delivery's first draw and the draws that its parts made so far.
-#[derive(Drop)]
+#[derive(Clone, Copy)]
 pub struct Delivery {
     pub source: Source,
     pub kind: u64,
@@ -25,7 +25,7 @@ pub struct Delivery {
 }
 
 // How many bytes a part has, and what is still to come after it.
-#[derive(Drop)]
+#[derive(Clone, Copy)]
 pub struct Part {
     pub bytes: usize,
     pub rest: Delivery,

@@ -8,7 +8,7 @@ use philox::x8::Philox4x32X8;
 use xoshiro::x8::Xoshiro256ppX8;
 
 // A generator of one of the two engines: of xoshiro256++ where `engine` is 1, of Philox where it is any other number. The other one is not used.
-#[derive(Drop)]
+#[derive(Clone, Copy)]
 pub struct Source {
     pub engine: u64,
     pub xoshiro: Xoshiro256ppX8,
@@ -16,7 +16,7 @@ pub struct Source {
 }
 
 // The number of a byte fill's refusal, or 0; its draws, and the source after them.
-#[derive(Drop)]
+#[derive(Clone, Copy)]
 pub struct SourceFill {
     pub refusal: u64,
     pub draws: u64,

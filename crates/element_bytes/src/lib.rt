@@ -1,4 +1,6 @@
 // Groups of every kind as bytes, by the kind's number: elements little-endian, floats as their bits.
+#![tactic(auto)]
+
 ghost use Rattle.std.specs.Prelude.{◌≡◌, ◌-◌, ◌*◌, ◌+◌, ◌<◌, ◌≤◌, length};
 ghost use Rattle.base.specs.Stored.{stored};
 ghost use Rattle.fills.specs.Buffer.{bytes_kind, groups_ahead, draws_ahead, stored_groups};

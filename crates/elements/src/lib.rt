@@ -1,4 +1,6 @@
 // The words of draws into elements and their bytes, a module a kind: kinds 1 to 4, 7 and 8.
+#![tactic(auto)]
+
 pub mod f32s;
 pub mod f64s;
 pub mod groups;

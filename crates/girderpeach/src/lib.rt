@@ -1,5 +1,7 @@
 // Girderpeach for C (include/girderpeach.h): fills of both engines from a saved form, which each accepted call replaces with the state after
 // it. An answer is a number, or minus a refusal's number; a refused call changes no byte.
+#![tactic(auto)]
+
 ghost use Rattle.std.specs.Prelude.{◌≡◌, ◌≤◌, ◌<◌, ◌^◌};
 ghost use Rattle.girderpeach.specs.Host.{answer_of};
 ghost use Rattle.girderpeach.specs.Xoshiro.{Filled, New, JumpedBlocks, Skipped};

@@ -9,13 +9,13 @@ use crate::{box_muller, ln, sincos_turns, sqrt};
 use floats::patterns;
 
 // What a call answers: 0 and the values, or the number of its refusal and zeros.
-#[derive(Drop)]
+#[derive(Clone, Copy)]
 pub struct Lanes {
     pub refusal: u64,
     pub value: [f32; 8],
 }
 
-#[derive(Drop)]
+#[derive(Clone, Copy)]
 pub struct CosSinLanes {
     pub refusal: u64,
     pub value: sincos_turns::CosSin,

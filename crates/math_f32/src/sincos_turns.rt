@@ -12,14 +12,14 @@ const MAGIC: f32 = 12_582_912.0; // 1.5 * 2^23
 const TAU: f32 = 6.28318530717958647692528676655900577;
 
 // One lane's cosine and sine.
-#[derive(Drop)]
+#[derive(Clone, Copy)]
 pub struct CosSinLane {
     pub cos: f32,
     pub sin: f32,
 }
 
 // Eight lanes' cosines and sines, or what is made from them, side by side.
-#[derive(Drop)]
+#[derive(Clone, Copy)]
 pub struct CosSin {
     pub cos: [f32; 8],
     pub sin: [f32; 8],

@@ -13,7 +13,7 @@ const LN2_HI: f64 = 6.931_471_803_691_238e-1;
 const LN2_LO: f64 = 1.908_214_929_270_587_7e-10;
 
 // What the logarithm takes a float apart into: the float is m * 2^e, and s is (m - 1) / (m + 1).
-#[derive(Drop)]
+#[derive(Clone, Copy)]
 pub struct Parts {
     pub s: f64,
     pub e: f64,

@@ -12,14 +12,14 @@ const MAGIC: f64 = 6_755_399_441_055_744.0; // 1.5 * 2^52
 const TAU: f64 = 6.28318530717958647692528676655900577;
 
 // One lane's cosine and sine.
-#[derive(Drop)]
+#[derive(Clone, Copy)]
 pub struct CosSinLane {
     pub cos: f64,
     pub sin: f64,
 }
 
 // Eight lanes' cosines and sines, or what is made from them, side by side.
-#[derive(Drop)]
+#[derive(Clone, Copy)]
 pub struct CosSin {
     pub cos: [f64; 8],
     pub sin: [f64; 8],

@@ -1,5 +1,7 @@
 // The float calls for a caller in C: the static library that tests/oracle links beside the Rust. Each answers the refusal's number,
 // and leaves in the lent arrays what the call's record holds.
+#![tactic(auto)]
+
 ghost use Rattle.std.specs.Prelude.{◌≡◌};
 ghost use Rattle.std.specs.Float.{binary32, binary64};
 ghost use Rattle.std.specs.Float.Ieee.{to_bits};

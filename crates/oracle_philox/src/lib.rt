@@ -1,6 +1,8 @@
 // Philox4x32-10 and its fills for a caller in C: a static library that tests/oracle links beside the Rust. The first six arguments are the
 // generator's fields; each call that moves the generator leaves in them the generator after the call. A draw and a fill leave their label
 // in `from`, the first block of the group, and `upper`.
+#![tactic(auto)]
+
 ghost use Rattle.std.specs.Prelude.{◌≡◌};
 ghost use Rattle.fills.specs.Kinds.{u64s, u32s, f32s, f64s, normal_f32s, normal_f64s, open01_f32s, open01_f64s};
 ghost use Rattle.philox.specs.x8.Machine.{drawn, fresh, sought, grouped, left_of};

@@ -1,5 +1,7 @@
 // The jumps of a xoshiro256++ stream, and the eight lanes and their fills, for a caller in C: a static library that tests/oracle links
 // beside the Rust. `s` is the generator's four words, or four rows; each call leaves in it the generator after the call.
+#![tactic(auto)]
+
 ghost use Rattle.std.specs.Prelude.{◌≡◌};
 ghost use Rattle.fills.specs.Fill.{Filled};
 ghost use Rattle.fills.specs.FillBytes.{FilledBytes};

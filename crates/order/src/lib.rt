@@ -1,5 +1,7 @@
 // The arguments of an order, ENGINE SEED BLOCK FIRST KIND COUNT [raw], as the numbers that they stand for. Each argument is in an array of
 // zeros that is longer than it, so that a 0 ends it.
+#![tactic(auto)]
+
 ghost use Rattle.std.specs.Prelude.{◌≡◌, cond, not, ◌+◌, leb};
 ghost use Rattle.order.specs.Words.{starts_with};
 ghost use Rattle.order.specs.Order.{engine_of, numbered, kind_of, last_block, last_draw, origin_of, with_draws, with_values, order_of};
@@ -11,7 +13,7 @@ use text::decimal::Number;
 
 // An order, with the draws that its values take. `refusal` is 0, or the number of what is wrong (none of the scope document's refusals): argument
 // 1 to 7; 8, more draws than there are from `first` on; 9, too few arguments or too many. Then the rest is 0.
-#[derive(Drop)]
+#[derive(Clone, Copy)]
 pub struct Order {
     pub refusal: u64,
     pub engine: u64,

@@ -42,7 +42,7 @@ pub fn philox4x32_10(counter: [u32; 4], key: [u32; 2]) -> [u32; 4]
 }
 
 // The four words of eight blocks: word k of block i at place i of row k.
-#[derive(Drop)]
+#[derive(Clone, Copy)]
 pub struct Group {
     pub w0: [u32; 8],
     pub w1: [u32; 8],

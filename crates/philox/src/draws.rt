@@ -21,7 +21,7 @@ const W0: u32 = 0x9E37_79B9;
 const W1: u32 = 0xBB67_AE85;
 
 // The lower and the upper word of a block.
-#[derive(Drop)]
+#[derive(Clone, Copy)]
 struct Halves {
     lower: u64,
     upper: u64,
@@ -136,7 +136,7 @@ pub fn upper_words(g: Philox4x32X8, n: u64) -> [u64; 8]
 }
 
 // The draws that a call made, the label of the first (of the next draw, where it made none), and the generator after them.
-#[derive(Drop)]
+#[derive(Clone, Copy)]
 pub struct Drawn {
     pub draws: usize,
     pub label: Label,

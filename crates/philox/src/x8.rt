@@ -17,7 +17,7 @@ fn joined(lo: [u32; 8], hi: [u32; 8]) -> [u64; 8]
 
 // A key, a stream and a block counter; and eight words that wait for the next draw, with the first block of their group, or zeros where
 // none wait. (The one byte stands last, so that a copy moves the words as words.)
-#[derive(Drop)]
+#[derive(Clone, Copy)]
 pub struct Philox4x32X8 {
     pub key: [u32; 2],
     pub stream: u64,
@@ -28,14 +28,14 @@ pub struct Philox4x32X8 {
 }
 
 // Where a draw's words come from: the first block of its group, and whether they are the group's upper half.
-#[derive(Drop)]
+#[derive(Clone, Copy)]
 pub struct Label {
     pub first: u64,
     pub upper: bool,
 }
 
 // Eight words, their label, and the generator after them.
-#[derive(Drop)]
+#[derive(Clone, Copy)]
 pub struct Draw {
     pub words: [u64; 8],
     pub label: Label,
@@ -43,7 +43,7 @@ pub struct Draw {
 }
 
 // The four words of eight blocks, word k of block i at place i of row k, and the generator after them.
-#[derive(Drop)]
+#[derive(Clone, Copy)]
 pub struct Blocks {
     pub w0: [u32; 8],
     pub w1: [u32; 8],

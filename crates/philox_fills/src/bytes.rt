@@ -15,7 +15,7 @@ use philox::draws;
 use philox::x8::{Label, Philox4x32X8};
 
 // The number of a byte fill's refusal, or 0; its draws, the label of the first, and the generator after them.
-#[derive(Drop)]
+#[derive(Clone, Copy)]
 pub struct ByteFill {
     pub refusal: u64,
     pub draws: u64,

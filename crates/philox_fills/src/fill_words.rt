@@ -11,7 +11,7 @@ use philox::x8::{Label, Philox4x32X8};
 use slices::u64s;
 
 // The draws that a fill made, the label of the first (of the next draw, where it made none), and the generator after them.
-#[derive(Drop)]
+#[derive(Clone, Copy)]
 pub struct Fill {
     pub draws: u64,
     pub label: Label,
@@ -19,7 +19,7 @@ pub struct Fill {
 }
 
 // What the parts of a fill hand on: draws that were made, and the generator after them.
-#[derive(Drop)]
+#[derive(Clone, Copy)]
 pub(crate) struct Made {
     pub draws: u64,
     pub rng: Philox4x32X8,

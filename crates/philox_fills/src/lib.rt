@@ -1,4 +1,6 @@
 // The fills of the Philox generator.
+#![tactic(auto)]
+
 pub mod bytes;
 pub mod fill_words;
 pub mod typed;

@@ -61,7 +61,7 @@ pub fn save(g: Philox4x32X8, form: &mut [u8]) -> u64
 }
 
 // The number of a refusal, or 0, and the form's generator; where it is refused a generator of zero bits.
-#[derive(Drop)]
+#[derive(Clone, Copy)]
 pub struct Loaded {
     pub refusal: u64,
     pub rng: Philox4x32X8,

@@ -6,7 +6,7 @@ ghost use Rattle.text.specs.decimal.Long.{long_of, value_of, fitting};
 ghost use Rattle.text.specs.decimal.Number.{extends, number_at};
 
 // What reading a number finds: its value, and the place behind the byte that ends it.
-#[derive(Drop)]
+#[derive(Clone, Copy)]
 pub enum Number {
     Value(u64, usize),
     Wrong,
@@ -135,7 +135,7 @@ pub fn read_number(s: &[u8], at: usize, stop: u8, top: u64) -> Number
 }
 
 // A number of more than 64 bits: 10^18 for each of high, and low, which is less than that.
-#[derive(Drop)]
+#[derive(Clone, Copy)]
 pub struct Long {
     pub high: u64,
     pub low: u64,

@@ -1,5 +1,7 @@
 // Writes what the engines hand out. The file `stdout` beside src/ holds what it must write: the published vectors, the scope
 // document's refusal numbers, and the answers of the Rust (tests/oracle says how they were made).
+#![tactic(auto)]
+
 mod filled;
 
 use libc::STDOUT_FILENO;

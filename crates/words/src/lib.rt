@@ -1,4 +1,6 @@
 // Operations on words of 64 bits and their halves that the engines share.
+#![tactic(auto)]
+
 ghost use Rattle.std.specs.Prelude.{◌≡◌, ◌+◌, ◌-◌, ◌*◌, ◌/◌, ◌%◌, ◌^◌, min};
 ghost use Rattle.words.specs.Words.{rotl as rotated};
 

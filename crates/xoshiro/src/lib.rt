@@ -1,4 +1,6 @@
 // SplitMix64 and xoshiro256++: one stream, eight together, many draws of the eight.
+#![tactic(auto)]
+
 pub mod draws;
 mod powers;
 pub mod rows;

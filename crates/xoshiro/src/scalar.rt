@@ -25,27 +25,27 @@ const LONG_JUMP: [u64; 4] = [
 ];
 
 // Scalar xoshiro256++ (Blackman and Vigna): four words of state, s0 first.
-#[derive(Drop)]
+#[derive(Clone, Copy)]
 pub struct Xoshiro256pp {
     pub s: [u64; 4],
 }
 
 // A word, and the generator after it.
-#[derive(Drop)]
+#[derive(Clone, Copy)]
 pub struct Draw {
     pub word: u64,
     pub rng: Xoshiro256pp,
 }
 
 // A generator; or the number of a refusal and a generator of zero bits.
-#[derive(Drop)]
+#[derive(Clone, Copy)]
 pub struct Answer {
     pub refusal: u64,
     pub rng: Xoshiro256pp,
 }
 
 // The generator after a jump; and the steps that the jump made, and the generator that these led to.
-#[derive(Drop)]
+#[derive(Clone, Copy)]
 pub struct Jump {
     pub rng: Xoshiro256pp,
     pub steps: u64,

@@ -3,13 +3,13 @@ ghost use Rattle.std.specs.Prelude.{◌≡◌};
 ghost use Rattle.xoshiro.specs.splitmix64.SplitMix64.{started, drawn};
 
 // One word of state. Every seed is valid.
-#[derive(Drop)]
+#[derive(Clone, Copy)]
 pub struct SplitMix64 {
     pub state: u64,
 }
 
 // A word, and the generator after it.
-#[derive(Drop)]
+#[derive(Clone, Copy)]
 pub struct Draw {
     pub word: u64,
     pub rng: SplitMix64,

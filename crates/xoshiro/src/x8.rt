@@ -8,7 +8,7 @@ use crate::scalar::{Answer, Xoshiro256pp};
 use crate::{rows, scalar};
 
 // Four rows of eight words: row k holds word k of each lane's state, and lane i is column i.
-#[derive(Drop)]
+#[derive(Clone, Copy)]
 pub struct Xoshiro256ppX8 {
     pub s0: [u64; 8],
     pub s1: [u64; 8],
@@ -17,14 +17,14 @@ pub struct Xoshiro256ppX8 {
 }
 
 // Eight words, word i from lane i, and the generator after them.
-#[derive(Drop)]
+#[derive(Clone, Copy)]
 pub struct Draw {
     pub words: [u64; 8],
     pub rng: Xoshiro256ppX8,
 }
 
 // A generator, and the jumps that the call counts to its total.
-#[derive(Drop)]
+#[derive(Clone, Copy)]
 pub struct Placed {
     pub rng: Xoshiro256ppX8,
     pub jumps: u64,
@@ -32,7 +32,7 @@ pub struct Placed {
 
 // A generator; or the number of a refusal and a generator of zero bits. (In this order: four words that are moved at once are then words
 // of one row.)
-#[derive(Drop)]
+#[derive(Clone, Copy)]
 pub struct LanesAnswer {
     pub rng: Xoshiro256ppX8,
     pub refusal: u64,

@@ -14,7 +14,7 @@ use xoshiro::x8::Xoshiro256ppX8;
 
 // The generator after a byte fill; the number of its refusal, or 0, and its draws. (In this order: four words that are moved at once are then
 // words of one row.)
-#[derive(Drop)]
+#[derive(Clone, Copy)]
 pub struct ByteFill {
     pub rng: Xoshiro256ppX8,
     pub refusal: u64,

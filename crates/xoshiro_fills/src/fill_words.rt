@@ -11,7 +11,7 @@ use xoshiro::draws;
 use xoshiro::x8::Xoshiro256ppX8;
 
 // The generator after a fill, and the draws that it made. (In this order: four words that are moved at once are then words of one row.)
-#[derive(Drop)]
+#[derive(Clone, Copy)]
 pub struct Fill {
     pub rng: Xoshiro256ppX8,
     pub draws: u64,

@@ -1,4 +1,6 @@
 // The fills of the eight-lane xoshiro256++.
+#![tactic(auto)]
+
 pub mod bytes;
 pub mod fill_words;
 pub mod typed;

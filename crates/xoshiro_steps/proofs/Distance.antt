@@ -1,7 +1,7 @@
 -- A jump's sum is the value of its polynomial at the step, so JUMP and LONG_JUMP are 2 ^ 128 and 2 ^ 192 steps. Assumes nothing.
 use mathlib.Core.Bool.{Bool}
 use mathlib.Core.List.{List}
-use mathlib.Core.Path.{◌≡◌, sym, ap, ◌∙◌, subst}
+use mathlib.Core.Path.{◌≡◌, sym, ap, ◌∙◌}
 use Prim.Native.Nat.{ℕ, zero, suc, ◌+◌, ◌-◌, ◌*◌, ◌/◌, ◌%◌, ◌^◌, ◌≤◌, ◌<◌}
 use native.Mathlib.Nat.{mod-mod, add-zero, zero-add, div-one}
 use native.Mathlib.Numerals.{add-one}

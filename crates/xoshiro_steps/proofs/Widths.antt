@@ -7,10 +7,10 @@ use lib.Bits.{xor_lt}
 use lib.Dec.{lit<}
 use lib.Pow.{pow_pos}
 use Rattle.base.proofs.Iterate.{iterate_keeps}
-use Rattle.words.specs.Words.{shl, rotl, xor_shifted}
+use Rattle.words.specs.Words.{shl, rotl}
 use Rattle.xoshiro_steps.specs.Claims.{Words}
 use Rattle.xoshiro_steps.specs.Xoshiro256pp.{State, step, steps, plus, none, bit_of, times, summed}
-use Rattle.xoshiro_steps.specs.Xoshiro256pp.{jumped, all_zero}
+use Rattle.xoshiro_steps.specs.Xoshiro256pp.{jumped}
 
 rotl_lt : (x : ℕ) → x % 2 ^ 19 * 2 ^ 45 + x / 2 ^ 19 % 2 ^ 45 < 2 ^ 64
 rotl_lt x = omega arith

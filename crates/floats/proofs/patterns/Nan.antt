@@ -8,8 +8,8 @@ use lib.Ieee.Compare.{differs_from_itself}
 use lib.Ieee.Bits.{nan_bits_is, nan_bits_above}
 use borrow.Author.Tests.{lt-ltb, le-ltb}
 
-pub is_nan : (x : Float) → ne x x ≡ true → x ≡ nan
-is_nan x e = differs_from_itself x (subst T (sym e) tt)
+pub is_nan_lem : (x : Float) → ne x x ≡ true → x ≡ nan
+is_nan_lem x e = differs_from_itself x (subst T (sym e) tt)
 
 pub no_nan : (x : Float) → ne x x ≡ false → T (not (is_nan x))
 unfolding ne is_nan

@@ -11,7 +11,7 @@ use lib.Bits.{bit_or, or_shifted_r}
 use lib.IntN.{ℤ, pos}
 use lib.Dec.{T, ltb, leb, ltb→lt, le→leb, lit<, lit≤}
 use lib.Pow.{pow-add, pow_pos, pow_mono, pow-lt, shl_lt}
-use lib.Ieee.{Float, fin, Format, binary32, binary64, prec, emax, low, up, down, unlike, round, mul, sub, sum, of_int}
+use lib.Ieee.{Float, fin, Format, binary32, binary64, prec, emax, low, up, down, unlike, round, mul, sub, sum, of_int, inf, nan}
 use lib.Ieee.{in_float, hid, ones, top, odd, of_fields, of_bits, nan_bits}
 use lib.Ieee.Bits.{nan_bits_above}
 use lib.Ieee.Fits.{down_pos}
@@ -70,6 +70,10 @@ mul_values f (fin s m e) (fin t n g) s' t' a c b d C D h k =
     ∙ ap (λ (u : Bool). round f (unlike s' u) (m * up e * (n * up g)) (down e * down g)) k.0
     ∙ round_same f (unlike s' t') (m * up e * (n * up g)) (down e * down g) (a * b) (c * d) (mul-pos (down_pos e) (down_pos g)) (mul-pos C D)
     (mul-mul-mul_comm (m * up e) (n * up g) c d ∙ ap (λ (z : ℕ). z * (n * up g * d)) h.1 ∙ ap (λ (z : ℕ). a * down e * z) k.1 ∙ mul-mul-mul_comm a (down e) b (down g))
+mul_values f nan y s' t' a c b d C D h k = elim h [ ]
+mul_values f (inf _) y s' t' a c b d C D h k = elim h [ ]
+mul_values f (fin s m e) nan s' t' a c b d C D h k = elim k [ ]
+mul_values f (fin s m e) (inf _) s' t' a c b d C D h k = elim k [ ]
 
 -- ---- a difference a / c - b / c, not negative and negative
 pub sub_mul : (a b c : ℕ) → (a - b) * c ≡ a * c - b * c
@@ -102,6 +106,10 @@ sub_values f (fin false m e) (fin false n g) a b c C l h k =
     (sub_mul A B c ∙ ap (λ (z : ℕ). z - B * c) p ∙ ap (λ (z : ℕ). a * D - z) q ∙ sym (sub_mul a b D))
 sub_values f (fin true m e) y a b c C l h k = absurd (true≢false h.0)
 sub_values f (fin false m e) (fin true n g) a b c C l h k = absurd (true≢false k.0)
+sub_values f nan y a b c C l h k = elim h [ ]
+sub_values f (inf _) y a b c C l h k = elim h [ ]
+sub_values f (fin false m e) nan a b c C l h k = elim k [ ]
+sub_values f (fin false m e) (inf _) a b c C l h k = elim k [ ]
 
 pub sub_less : (f : Format) (x y : Float) (a b c : ℕ) → 0 < c → a < b → HasValue x false a c → HasValue y false b c
     → sub f x y ≡ round f true (b - a) c
@@ -120,6 +128,10 @@ sub_less f (fin false m e) (fin false n g) a b c C l h k =
     (sub_mul B A c ∙ ap (λ (z : ℕ). z - A * c) q ∙ ap (λ (z : ℕ). b * D - z) p ∙ sym (sub_mul b a D))
 sub_less f (fin true m e) y a b c C l h k = absurd (true≢false h.0)
 sub_less f (fin false m e) (fin true n g) a b c C l h k = absurd (true≢false k.0)
+sub_less f nan y a b c C l h k = elim h [ ]
+sub_less f (inf _) y a b c C l h k = elim h [ ]
+sub_less f (fin false m e) nan a b c C l h k = elim k [ ]
+sub_less f (fin false m e) (inf _) a b c C l h k = elim k [ ]
 
 -- ---- the laws that the functions cite
 -- a result that is the rounded fraction is the fraction
@@ -163,6 +175,8 @@ rescale (fin t m e) s w l num den p h v = (
       ∙ ap (λ (x : ℕ). x * down e) (sym h)
       ∙ mul_right_comm num l (down e)),
 )
+rescale nan s w l num den p h v = elim v [ ]
+rescale (inf _) s w l num den p h v = elim v [ ]
 
 fields : (f : Format) (t : ℕ) → t < hid f → (leb (top f) (emax f * hid f + t) ≡ false) × ((emax f * hid f + t) % top f / hid f ≡ emax f) × ((emax f * hid f + t) % hid f ≡ t)
 fields binary32 t h = (lt-leb (top binary32) (emax binary32 * hid binary32 + t) (omega arith), omega arith, omega arith)

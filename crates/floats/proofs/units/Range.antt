@@ -7,7 +7,7 @@ use native.Mathlib.Omega.{arith}
 use mathlib.Core.Bool.{true, false, true≢false}
 use lib.Dec.{T, lt→ltb, lit<}
 use lib.Pow.{pow_pos, pow_mono}
-use lib.Ieee.{Float, fin, Format, binary32, binary64, up, down, le, lt, emax}
+use lib.Ieee.{Float, fin, Format, binary32, binary64, up, down, le, lt, emax, inf, nan}
 use lib.Ieee.Fits.{and_i, down_pos}
 use lib.Ieee.Exact.{HasValue}
 use lib.Ieee.Order.{le_of_values}
@@ -64,6 +64,8 @@ over_zero (fin false m e) n k p v =
     lt→ltb (0 * down e) (m * up e * 1)
     (subst (λ (z : ℕ). z < m * up e * 1) (sym (zero-mul (down e))) (subst (λ (z : ℕ). 0 < z) (sym (mul-one (m * up e))) over))
 over_zero (fin true m e) n k p v = absurd (true≢false v.0)
+over_zero nan n k p v = elim v [ ]
+over_zero (inf _) n k p v = elim v [ ]
 
 -- a fraction below 1 is less than 1
 pub under_one : (x : Float) (n k : ℕ) → n < 2 ^ k → HasValue x false n (2 ^ k) → T (lt x one)
@@ -73,6 +75,8 @@ under_one (fin false m e) n k h v =
     (lt_of_mul-lt-mul_right (2 ^ k) (subst (λ (z : ℕ). z < 1 * 1 * down e * 2 ^ k) (sym (ap (λ (z : ℕ). z * 2 ^ k) (mul-one (m * up e)) ∙ v.1))
     (lt_of_lt_of_le (mul-lt-mul_of_pos_right h (down_pos e)) (le_of_eq (mul_comm (2 ^ k) (down e) ∙ ap (λ (z : ℕ). z * 2 ^ k) (sym (one-mul (down e))))))))
 under_one (fin true m e) n k h v = absurd (true≢false v.0)
+under_one nan n k h v = elim v [ ]
+under_one (inf _) n k h v = elim v [ ]
 
 -- a fraction below 1 is in [0, 1)
 pub second_passes : (x : Float) (n k : ℕ) → n < 2 ^ k → HasValue x false n (2 ^ k) → T (is_u2 x)

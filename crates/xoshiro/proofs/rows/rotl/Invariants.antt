@@ -1,0 +1,8 @@
+use Rattle.std.proofs.Common.{◌-◌, ◌%◌, get_or, refl, arith, rules}
+use Rattle.words.specs.Words.{rotl}
+use Rattle.base.proofs.Table.{Tabled, tabled_none, tabled_more, tabled_end}
+use Rattle.xoshiro.specs.rows.Rows.{rotls}
+use Rattle.xoshiro.proofs.rows.rotl.Given as goal
+
+abbrev pub invariant-loop-i : goal.invariant-loop-i
+invariant-loop-i l = Tabled 8 (λ j. rotl (l.k % 64) (get_or l.a j 0)) 0 l.out l.i

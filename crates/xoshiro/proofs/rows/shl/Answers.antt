@@ -1,0 +1,14 @@
+use Rattle.std.proofs.Common.{◌-◌, ◌%◌, get_or, refl, arith}
+use Rattle.words.specs.Words.{shl}
+use Rattle.base.proofs.Table.{Tabled, tabled_none, tabled_more, tabled_end}
+use Rattle.xoshiro.specs.rows.Rows.{shls}
+use Rattle.std.proofs.Common.{rules, false}
+use Rattle.xoshiro.proofs.rows.shl.Goals as goal
+
+pub loop-i-preserved : goal.loop-i-preserved
+unfolding shl
+loop-i-preserved c = tabled_more c.loop-i.invariant (omega arith) refl
+
+pub returns : goal.returns
+unfolding shls
+returns c = tabled_end c.loop-i.invariant c.loop-i-test.false

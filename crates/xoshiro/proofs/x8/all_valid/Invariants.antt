@@ -1,0 +1,7 @@
+use Rattle.std.proofs.Common.{◌-◌, not, ap, arith, rules}
+use Rattle.base.proofs.Every.{Tested, tested_none, tested_more, tested_end}
+use Rattle.xoshiro.specs.x8.Calls.{is_valid, no_lane}
+use Rattle.xoshiro.proofs.x8.all_valid.Given as goal
+
+abbrev pub invariant-loop-i : goal.invariant-loop-i
+invariant-loop-i l = Tested 8 is_valid l.lanes l.ok l.i
