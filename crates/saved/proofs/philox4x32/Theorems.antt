@@ -1,6 +1,6 @@
 -- The claims of specs/philox4x32/Claims.antt. Assumes nothing.
 use Rattle.std.proofs.Common.{◌≡◌, ℕ, ◌+◌, ◌<◌, Bool, true, false, cond, ◌&&◌, ◌||◌, eqb, List, length, get_or, sym, refl, ap, ◌∙◌, true≢false, eq-eqb, ne_eqb}
-use mathlib.Core.Bool.{and_false}
+use mathlib.Core.Bool.{and-false}
 use Rattle.base.specs.Every.{every}
 use Rattle.base.proofs.Table.{length-table, get_or-table}
 use Rattle.saved.specs.fields.Fields.{fields}
@@ -89,7 +89,7 @@ refusals s =
     unmarked-number : mark ≡ 0 → (number ≡ 0 → ⊥) → is_form mark waiting number ≡ false
     unmarked-number m q =
         form_by mark waiting number (ap (λ (k : ℕ). eqb k 1) m) (eq-eqb mark 0 m) refl (ne_eqb number 0 q)
-        ∙ and_false (every (λ x. eqb x 0) waiting)
+        ∙ and-false (every (λ x. eqb x 0) waiting)
 
     -- a form that is parsed is accepted where its words are its group's; one that isn't is refused so
     accepted : length s ≡ 104 → is_form mark waiting number ≡ true → is_numbered (of_fields f) ≡ true → (loaded s).refusal ≡ 0

@@ -1,0 +1,7 @@
+use Rattle.std.proofs.Common.{◌-◌, Bool, ◌&&◌, ◌||◌, eqb, refl, ap, rules}
+use Rattle.base.proofs.Every.{Tested, tested_none, tested_more, tested_end}
+use Rattle.saved.specs.philox4x32.Form.{is_form}
+use Rattle.saved.proofs.philox4x32.is_form.Given as goal
+
+abbrev pub invariant-loop-i : goal.invariant-loop-i
+invariant-loop-i l = Tested 8 (λ x. eqb x 0) l.pending l.none l.i

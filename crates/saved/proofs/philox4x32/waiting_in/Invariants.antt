@@ -1,0 +1,8 @@
+use Rattle.std.proofs.Common.{◌+◌, ◌-◌, ◌*◌, take, drop, refl, ◌∙◌, rules}
+use Rattle.base.proofs.Table.{Tabled, tabled_none, tabled_more, tabled_end}
+use Rattle.base.specs.Bytes.{le_nat}
+use Rattle.saved.proofs.philox4x32.Form.{waiting_read}
+use Rattle.saved.proofs.philox4x32.waiting_in.Given as goal
+
+abbrev pub invariant-loop-i : goal.invariant-loop-i
+invariant-loop-i l = Tabled 8 (λ j. le_nat (take 8 (drop (32 + j * 8) l.form))) 0 l.out l.i

@@ -1,0 +1,10 @@
+use Rattle.saved.proofs.fields.Saved.{save-refused, save_done}
+use Rattle.saved.proofs.xoshiro256pp.Form.{rows-stored}
+use Rattle.std.proofs.Common.{rules}
+use Rattle.std.proofs.Common.{◌-◌, false}
+use Rattle.base.specs.Stored.{stored}
+use Rattle.saved.proofs.xoshiro256pp.save.Goals as goal
+
+pub returns : goal.returns
+returns c =
+    save_done c.if-form-ne256.false (rows-stored _ _ c.if-form-ne256.false c.put_row.ensures c.put_row-2.ensures c.put_row-3.ensures c.put_row-4.ensures)
