@@ -6,7 +6,7 @@ use Rattle.base.proofs.Table.{length-table, get_or-table}
 use Rattle.saved.specs.fields.Fields.{fields}
 use Rattle.saved.proofs.fields.Tests.{all_pass, one_fails}
 use Rattle.philox.specs.x8.Claims.{Numbered}
-use Rattle.saved.specs.philox4x32.Claims.{upper_in, FormLength, LoadSaved, LoadNumbered, SaveLoaded, Refusals, MovedBack}
+use Rattle.saved.specs.philox4x32.Claims.{FormLength, LoadSaved, LoadNumbered, SaveLoaded, Refusals, MovedBack}
 use Rattle.saved.specs.philox4x32.Form.{layout, form_of, mark_in, waiting_in, number_in}
 use Rattle.saved.specs.philox4x32.Form.{of_fields, is_form, refused, parsed, is_numbered, loaded}
 use Rattle.saved.specs.declared.philox4x32.Loaded.{Loaded}

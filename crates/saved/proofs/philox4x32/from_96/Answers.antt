@@ -1,8 +1,6 @@
-use Rattle.saved.proofs.philox4x32.Moves.{number_put, move_short, move-refused, move_done, old_short, put_moved}
+use Rattle.saved.proofs.philox4x32.Moves.{number_put, move-refused, move_done, old_short, put_moved}
 use Rattle.saved.specs.philox4x32.Form.{loaded}
-use Rattle.std.proofs.Common.{List, refl, ap, ◌∙◌, arith, rules}
-use Rattle.std.proofs.Common.{◌-◌, true, false}
-use Rattle.saved.specs.philox4x32.Moves.{number_for}
+use Rattle.std.proofs.Common.{List, refl, ap, ◌∙◌, arith}
 use Rattle.saved.proofs.philox4x32.from_96.Goals as goal
 
 pub returns-then-old-ne96 : goal.returns-then-old-ne96

@@ -1,7 +1,6 @@
-use Rattle.std.proofs.Common.{◌-◌, Bool, ◌&&◌, ◌||◌, eqb, refl, ap, rules}
-use Rattle.base.proofs.Every.{Tested, tested_none, tested_more, tested_end}
+use Rattle.std.proofs.Common.{Bool, ◌&&◌, ◌||◌, eqb, ap}
+use Rattle.base.proofs.Every.{tested_end}
 use Rattle.saved.specs.philox4x32.Form.{is_form}
-use Rattle.std.proofs.Common.{false}
 use Rattle.saved.proofs.philox4x32.is_form.Goals as goal
 
 pub returns : goal.returns

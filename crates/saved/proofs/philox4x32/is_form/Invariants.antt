@@ -1,6 +1,5 @@
-use Rattle.std.proofs.Common.{◌-◌, Bool, ◌&&◌, ◌||◌, eqb, refl, ap, rules}
-use Rattle.base.proofs.Every.{Tested, tested_none, tested_more, tested_end}
-use Rattle.saved.specs.philox4x32.Form.{is_form}
+use Rattle.std.proofs.Common.{eqb}
+use Rattle.base.proofs.Every.{Tested}
 use Rattle.saved.proofs.philox4x32.is_form.Given as goal
 
 abbrev pub invariant-loop-i : goal.invariant-loop-i

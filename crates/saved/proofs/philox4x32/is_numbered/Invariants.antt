@@ -1,10 +1,6 @@
-use Rattle.std.proofs.Common.{ℕ, ◌-◌, eqb, List, get_or, sym, ap, ◌∙◌, rules}
-use Rattle.base.proofs.Every.{Tested, tested_none, tested_more, tested_end}
-use Rattle.base.proofs.Table.{length-table, get_or-table}
+use Rattle.std.proofs.Common.{eqb, get_or}
+use Rattle.base.proofs.Every.{Tested}
 use Rattle.base.specs.Table.{table}
-use Rattle.saved.proofs.philox4x32.Form.{none-waits, numbered_by}
-use borrow.Author.Tests.{not-true, not-false}
-use Rattle.base.specs.Every.{every}
 use Rattle.saved.proofs.philox4x32.is_numbered.Given as goal
 
 abbrev pub invariant-loop-i : goal.invariant-loop-i

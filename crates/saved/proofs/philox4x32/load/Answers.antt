@@ -1,6 +1,5 @@
 use Rattle.saved.proofs.philox4x32.Form.{load_by}
-use Rattle.std.proofs.Common.{◌∙◌, rules}
-use Rattle.std.proofs.Common.{◌-◌, true, false}
+use Rattle.std.proofs.Common.{◌∙◌}
 use Rattle.saved.proofs.philox4x32.load.Goals as goal
 
 pub returns-then-is_numbered : goal.returns-then-is_numbered

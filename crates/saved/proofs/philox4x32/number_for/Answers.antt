@@ -1,6 +1,4 @@
 use Rattle.saved.proofs.philox4x32.Moves.{number_waiting, number-none}
-use Rattle.std.proofs.Common.{rules}
-use Rattle.std.proofs.Common.{◌-◌, true, false}
 use Rattle.saved.proofs.philox4x32.number_for.Goals as goal
 
 pub returns-then-word_at-eq1 : goal.returns-then-word_at-eq1

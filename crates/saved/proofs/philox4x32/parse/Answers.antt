@@ -1,7 +1,5 @@
 use Rattle.saved.proofs.philox4x32.Form.{parse_short, parse_refused, parse_done}
-use Rattle.std.proofs.Common.{refl, ◌∙◌, rules}
-use Rattle.std.proofs.Common.{◌-◌, true, false}
-use Rattle.saved.specs.philox4x32.Form.{waiting_in, is_form}
+use Rattle.std.proofs.Common.{refl, ◌∙◌}
 use Rattle.saved.proofs.philox4x32.parse.Goals as goal
 
 pub returns-then-form-ne104 : goal.returns-then-form-ne104

@@ -1,8 +1,5 @@
 use Rattle.saved.proofs.philox4x32.Form.{words-stored}
-use Rattle.saved.proofs.fields.Saved.{save-refused, save_done}
-use Rattle.std.proofs.Common.{rules}
-use Rattle.std.proofs.Common.{◌-◌, false}
-use Rattle.saved.specs.philox4x32.Form.{waiting_of, number_of}
+use Rattle.saved.proofs.fields.Saved.{save_done}
 use Rattle.saved.proofs.philox4x32.save.Goals as goal
 
 pub returns : goal.returns

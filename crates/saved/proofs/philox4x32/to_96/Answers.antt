@@ -1,6 +1,5 @@
-use Rattle.saved.proofs.philox4x32.Moves.{move_short, move-refused, move_done, put_first}
-use Rattle.std.proofs.Common.{sym, ◌∙◌, rules}
-use Rattle.std.proofs.Common.{◌-◌, false}
+use Rattle.saved.proofs.philox4x32.Moves.{move_done, put_first}
+use Rattle.std.proofs.Common.{sym, ◌∙◌}
 use Rattle.saved.proofs.philox4x32.to_96.Goals as goal
 
 pub returns : goal.returns

@@ -1,7 +1,6 @@
-use Rattle.std.proofs.Common.{◌+◌, ◌-◌, ◌*◌, take, drop, refl, ◌∙◌, rules}
-use Rattle.base.proofs.Table.{Tabled, tabled_none, tabled_more, tabled_end}
+use Rattle.std.proofs.Common.{◌+◌, ◌*◌, take, drop}
+use Rattle.base.proofs.Table.{Tabled}
 use Rattle.base.specs.Bytes.{le_nat}
-use Rattle.saved.proofs.philox4x32.Form.{waiting_read}
 use Rattle.saved.proofs.philox4x32.waiting_in.Given as goal
 
 abbrev pub invariant-loop-i : goal.invariant-loop-i

@@ -1,6 +1,5 @@
 use Rattle.saved.proofs.philox4x32.Form.{waiting_words}
 use Rattle.std.proofs.Common.{◌≡◌, length, rules}
-use Rattle.std.proofs.Common.{◌-◌, true}
 use Rattle.saved.proofs.philox4x32.waiting_of.Goals as goal
 
 pub returns-then-waiting : goal.returns-then-waiting

@@ -1,6 +1,5 @@
 use Rattle.saved.proofs.xoshiro256pp.Form.{lane_read}
-use Rattle.std.proofs.Common.{refl, rules}
-use Rattle.std.proofs.Common.{◌-◌}
+use Rattle.std.proofs.Common.{refl}
 use Rattle.saved.proofs.xoshiro256pp.lane_in.Goals as goal
 
 pub returns : goal.returns

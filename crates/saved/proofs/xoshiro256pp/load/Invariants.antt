@@ -1,7 +1,5 @@
-use Rattle.std.proofs.Common.{◌-◌, refl, rules}
-use Rattle.base.proofs.Table.{Tabled, tabled_none, tabled_more, tabled_end}
+use Rattle.base.proofs.Table.{Tabled}
 use Rattle.saved.specs.fields.Fields.{fields}
-use Rattle.saved.proofs.xoshiro256pp.Form.{load-long, load_short}
 use Rattle.saved.specs.xoshiro256pp.Form.{layout, lane_in}
 use Rattle.xoshiro.specs.x8.Calls.{no_lane}
 use Rattle.saved.proofs.xoshiro256pp.load.Given as goal

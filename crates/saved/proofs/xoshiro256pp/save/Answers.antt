@@ -1,8 +1,5 @@
-use Rattle.saved.proofs.fields.Saved.{save-refused, save_done}
+use Rattle.saved.proofs.fields.Saved.{save_done}
 use Rattle.saved.proofs.xoshiro256pp.Form.{rows-stored}
-use Rattle.std.proofs.Common.{rules}
-use Rattle.std.proofs.Common.{◌-◌, false}
-use Rattle.base.specs.Stored.{stored}
 use Rattle.saved.proofs.xoshiro256pp.save.Goals as goal
 
 pub returns : goal.returns
