@@ -28,14 +28,19 @@ fn told(err: Stderr, written: io::Result<()>) -> bool
     ok
 }
 
-// A line on standard error: what failed, a colon and the system's text for the error. The library puts the error's number behind that text.
+// A line on standard error: what failed, a colon and the system's text for the error.
 fn fail(err: Stderr, what: &str, error: io::Error) {
     let text = InlineText::<256>::of(error);
-    let reason = match text.as_str().rsplit_once(" (os error ") {
-        Some((reason, _)) => reason,
-        None => text.as_str(),
-    };
+    let reason = without_number(text.as_str());
     let _said = eprintln!(err; "{what}: {reason}");
+}
+
+// The text of an error without its number, which the library puts behind it.
+fn without_number(text: &str) -> &str {
+    match text.rsplit_once(" (os error ") {
+        Some((reason, _)) => reason,
+        None => text,
+    }
 }
 
 // What is left of a delivery, and whether all of it was written: no write failed, and so nothing is left.
