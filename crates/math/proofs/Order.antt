@@ -12,7 +12,7 @@ use lib.IntN.{ℤ}
 use lib.Pow.{pow-add, pow_pos}
 use lib.Ieee.{Float, Format, binary32, binary64, nan, inf, fin, prec, low, hid, top, up, down, size, le, lt, eq, neg, ones, fits, is_nan, to_bits, of_bits}
 use lib.Ieee.Bits.{of_bits-to_bits, to_bits-lt}
-use lib.Ieee.Digits.{size_lt, size-le, size_reaches}
+use lib.Ieee.Digits.{size-lt, size-le, size_reaches}
 use lib.Ieee.Fits.{up_pos, down_pos, kept-lt, neg-fits}
 use lib.Ieee.Nearest.{div_mono}
 use Rattle.math.proofs.Values.{fine, exponent}
@@ -22,7 +22,7 @@ abbrev below_sign : Format → ℕ → ℕ
 below_sign f n = (size n - prec f) * hid f + n / 2 ^ (size n - prec f)
 
 size_mono : (n m : ℕ) → n ≤ m → size n ≤ size m
-size_mono n m h = size-le n (size m) (lt_of_le_of_lt h (size_lt m))
+size_mono n m h = size-le n (size m) (lt_of_le_of_lt h (size-lt m))
 
 hid_two : (f : Format) → 2 ^ prec f ≡ 2 * hid f
 hid_two binary32 = refl

@@ -8,11 +8,11 @@ use native.Mathlib.Omega.{arith}
 use borrow.Author.Tests.{lt-ltb}
 use mathlib.Core.Bool.{Bool, true, false, not, cond}
 use lib.IntN.{ℤ, pos}
-use lib.Dec.{T, leb, ltb, is_le, compare_is_eq, eqb, leb→le, nleb→lt, eqb→eq, eqb_refl, lit<, lit≤}
+use lib.Dec.{T, ltb, is_le, compare_is_eq, eqb, leb→le, nleb→lt, eqb→eq, eqb_refl, lit<, lit≤}
 use lib.Arith.{lt_of_le-ne}
 use lib.Pow.{pow-add, pow_pos, pow_mono}
-use lib.Ieee.{Float, fin, Format, binary32, binary64, prec, emax, low, hid, top, up, down, size, nearest, units, round, to_bits, fits, unlike, mul, add, sum}
-use lib.Ieee.Digits.{size_lt, size-le}
+use lib.Ieee.{Float, fin, Format, binary32, binary64, prec, emax, low, hid, top, up, down, size, nearest, units, round, to_bits, fits, unlike, mul, add, sum, inf, nan}
+use lib.Ieee.Digits.{size-lt, size-le}
 use lib.Ieee.Fits.{round_is, core, down_pos, nearest-le}
 use Rattle.floats.proofs.units.Exact.{mul_values, sub_mul}
 use Rattle.math.specs.Claims.{modulo4}
@@ -109,7 +109,7 @@ closest_minus h a c C l =
 
 -- ---- a fraction whose whole part has just the format's digits is rounded to the nearest whole number
 size_is : (x p : ℕ) → 0 < p → 2 ^ (p - 1) ≤ x → x < 2 ^ p → size x ≡ p
-size_is x p P lo hi = le_antisymm (size-le x p hi) (all (size x) p P (lt_of_not-le (λ (g : size x ≤ p - 1). not-le_of_lt (lt_of_lt_of_le (size_lt x) (pow_mono g)) lo)))
+size_is x p P lo hi = le_antisymm (size-le x p hi) (all (size x) p P (lt_of_not-le (λ (g : size x ≤ p - 1). not-le_of_lt (lt_of_lt_of_le (size-lt x) (pow_mono g)) lo)))
   where
     all : (z p : ℕ) → 0 < p → p - 1 < z → p ≤ z
     all z p P h = omega arith
@@ -145,6 +145,8 @@ unfolding to_bits
 to_bits_of f (fin t m e) N v =
     ap (λ (b : Bool). cond b (top f) 0 + (size (m * up e * 2 ^ low f / down e) - prec f) * hid f + m * up e * 2 ^ low f / down e / 2 ^ (size (m * up e * 2 ^ low f / down e) - prec f)) v.0
     ∙ ap (λ (n : ℕ). 0 + (size n - prec f) * hid f + n / 2 ^ (size n - prec f)) (ap (λ (z : ℕ). z / down e) v.1 ∙ mul-div_cancel (N * 2 ^ low f) (down_pos e))
+to_bits_of f nan N v = elim v [ ]
+to_bits_of f (inf _) N v = elim v [ ]
 
 within : (f : Format) (N : ℕ) → 2 ^ (prec f - 1) ≤ N → N < 2 ^ prec f → (0 + (size (N * 2 ^ low f) - prec f) * hid f + N * 2 ^ low f / 2 ^ (size (N * 2 ^ low f) - prec f)) % 4 ≡ N % 4
 within f N lo hi =
@@ -254,6 +256,10 @@ add_values f (fin s m e) (fin t n g) u a b c C l h k =
     ∙ sum_values f u A B D a b c (mul-pos (down_pos e) (down_pos g)) C l
     (mul_right_comm (m * up e) (down g) c ∙ ap (λ (z : ℕ). z * down g) h.1 ∙ mul_assoc a (down e) (down g))
     (mul_right_comm (n * up g) (down e) c ∙ ap (λ (z : ℕ). z * down e) k.1 ∙ mul_assoc b (down g) (down e) ∙ ap (λ (z : ℕ). b * z) (mul_comm (down g) (down e)))
+add_values f nan y u a b c C l h k = elim h [ ]
+add_values f (inf _) y u a b c C l h k = elim h [ ]
+add_values f (fin s m e) nan u a b c C l h k = elim k [ ]
+add_values f (fin s m e) (inf _) u a b c C l h k = elim k [ ]
 
 -- ---- the law
 -- b = 3u, with u = 2^(prec - 2)

@@ -7,7 +7,7 @@ use native.Mathlib.Omega.{arith}
 use lib.Dec.{T, eqb, leb, ltb, leb→le, ltb→lt}
 use lib.IntN.{ℤ, pos, negsuc}
 use lib.Pow.{pow-add, pow-lt, pow_pos}
-use lib.Ieee.{Float, Format, fin, prec, emax, low, hid, top, up, down, size, round, fits, to_bits, of_bits}
+use lib.Ieee.{Float, Format, fin, prec, emax, low, hid, top, up, down, size, round, fits, to_bits, of_bits, inf, nan}
 use lib.Ieee.Bits.{of_bits-to_bits}
 use lib.Ieee.Exact.{HasValue, round_exact}
 use lib.Ieee.Fits.{and_l, and_r, down_pos, round-fits}
@@ -97,6 +97,8 @@ pattern_of f (fin t m e) s a c C v =
     ap (λ (b : Bool). pattern f b (m * up e * 2 ^ low f / down e)) v.0
     ∙ ap (pattern f s) (div_same (m * up e * 2 ^ low f) (down e) (a * 2 ^ low f) c (down_pos e) C
     (mul_right_comm (m * up e) (2 ^ low f) c ∙ ap (λ (z : ℕ). z * 2 ^ low f) v.1 ∙ mul_right_comm a (down e) (2 ^ low f)))
+pattern_of f nan s a c C v = elim v [ ]
+pattern_of f (inf _) s a c C v = elim v [ ]
 
 same-value : (f : Format) (x y : Float) (s : Bool) (a c : ℕ) → 0 < c → T (fits f x) → T (fits f y) → HasValue x s a c → HasValue y s a c → x ≡ y
 same-value f x y s a c C p q v w =

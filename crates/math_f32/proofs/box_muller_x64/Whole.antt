@@ -1,5 +1,5 @@
 -- The arrays that the three loops leave one after another are the halves of the transform. Assumes nothing.
-use Rattle.std.proofs.Common.{◌≡◌, ℕ, ◌<◌, List, map, length, get_or, ap, ◌∙◌}
+use Rattle.std.proofs.Common.{◌≡◌, ℕ, List, map, length, get_or, ap, ◌∙◌}
 use lib.Ieee.{Float, binary32, nan, mul}
 use Rattle.base.specs.Table.{table}
 use Rattle.base.specs.Zip.{zip_with}

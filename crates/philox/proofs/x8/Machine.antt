@@ -9,7 +9,6 @@ use Rattle.philox.specs.x8.Machine.{join_of, block_at, group_at, lower_at, upper
 use Rattle.philox.specs.x8.Machine.{holding, past, words_of, next_of, label_of, drawn, left_of}
 use Rattle.philox.specs.declared.x8.Philox4x32X8.{Philox4x32X8}
 use Rattle.philox.specs.declared.x8.Draw.{Draw}
-use Rattle.philox.specs.declared.x8.Label.{Label}
 
 -- a group's rows, joined two by two
 joined : (f : ℕ → Quad) (lo hi : Quad → ℕ) → join_of (table 8 (λ i. lo (f i))) (table 8 (λ i. hi (f i))) ≡ table 8 (λ i. lo (f i) + 2 ^ 32 * hi (f i))

@@ -8,7 +8,7 @@ use Rattle.base.proofs.Iterate.{iterate_more, iterate_keeps}
 use Rattle.base.proofs.Table.{get_or-table}
 use Rattle.philox.specs.block.Philox.{group_of}
 use Rattle.philox.specs.x8.Machine.{block_at, lower_at, upper_at, fresh, sought, holding}
-use Rattle.philox.specs.x8.Machine.{grouped, words_of, next_of, label_of, drawn, left_of}
+use Rattle.philox.specs.x8.Machine.{grouped, words_of, next_of, drawn, left_of}
 use Rattle.philox.specs.x8.Claims.{DrawWaiting, DrawFresh, GroupCall, Seek, SkipSeeks, EightWords}
 use Rattle.philox.specs.x8.Claims.{LabelWaiting, LabelFresh, LabelKept, Numbered, KeepsNumber}
 use Rattle.philox.specs.x8.Claims.{LeftWaiting, LeftFresh, LeftSought, LeftDrawn, LeftGrouped}

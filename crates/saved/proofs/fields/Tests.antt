@@ -1,6 +1,6 @@
 -- A test of every element of a table, by the test of each. Assumes nothing.
 use Rattle.std.proofs.Common.{◌≡◌, ℕ, zero, suc, ◌<◌, Bool, true, false, ◌&&◌, T, sym, refl, ap, ◌∙◌, subst, ap₂, suc-le-suc, le_of_suc-le-suc, not-suc-le-zero, zero-lt-suc}
-use mathlib.Core.Bool.{and_false, false≢true}
+use mathlib.Core.Bool.{and-false, false≢true}
 use Rattle.base.specs.Every.{every}
 use Rattle.base.specs.Table.{table}
 use Rattle.base.proofs.Every.{every-table}
@@ -23,7 +23,7 @@ module _ {A : Type 0} (p : A → Bool) where
   unfolding table
   one_fails zero f i l e = absurd (not-suc-le-zero l)
   one_fails (suc n) f zero l e = ap (λ (b : Bool). b && every p (table n (λ i. f (suc i)))) e
-  one_fails (suc n) f (suc i) l e = ap (λ (b : Bool). p (f 0) && b) (one_fails n (λ j. f (suc j)) i (le_of_suc-le-suc l) e) ∙ and_false (p (f 0))
+  one_fails (suc n) f (suc i) l e = ap (λ (b : Bool). p (f 0) && b) (one_fails n (λ j. f (suc j)) i (le_of_suc-le-suc l) e) ∙ and-false (p (f 0))
 
   pub each_passes : (n : ℕ) (f : ℕ → A) → every p (table n f) ≡ true → (i : ℕ) → i < n → p (f i) ≡ true
   each_passes n f e i l = is_true (p (f i)) (every-table p n f (subst T (sym e) tt) i l)

@@ -1,7 +1,7 @@
 -- The form of a Philox generator as it is stored and read, which forms are accepted, and both round trips. Assumes nothing.
 use Rattle.std.proofs.Common.{◌≡◌, ℕ, zero, suc, ◌+◌, ◌*◌, ◌/◌, ◌%◌, ◌^◌, ◌<◌, Bool, true, false, cond, not, ◌&&◌, ◌||◌, eqb, List, [], ◌∷◌, ◌++◌, length, get_or, take, drop, replicate, sym, refl, ap, ◌∙◌, ap₂, true≢false, arith, lit<, length-append, pow_pos, eq-eqb, ne_eqb, eqb-true}
 use native.Mathlib.Decide.{ℕ_discrete}
-use borrow.Author.Tests.{not_true, not-false}
+use borrow.Author.Tests.{not-true, not-false}
 use Rattle.base.specs.Bytes.{le_bytes, le_nat, flat}
 use Rattle.base.specs.Every.{every}
 use Rattle.base.specs.Stored.{stored}
@@ -122,7 +122,7 @@ module _ (s : List ℕ) where
     pub parse_refused : not ok ≡ true → refused 2 ≡ parsed s
     unfolding of_form
     parse_refused h = ap (λ (b : Bool). cond b (record { refusal = 0; rng = of_fields (fields layout s) }) (refused 2))
-        (sym (not_true ok h) ∙ test) ∙ parse_long long
+        (sym (not-true ok h) ∙ test) ∙ parse_long long
 
     pub parse_done : not ok ≡ false → ((i : ℕ) → get_or s i 0 < 256) → {seed lo hi stream counter : ℕ} {waiting : Bool}
         → seed ≡ le_nat (take 8 (drop 0 s)) → lo ≡ seed % 2 ^ 32 → hi ≡ seed / 2 ^ 32

@@ -1,9 +1,8 @@
 -- The moves between forms of 96 and of 104 bytes. Assumes nothing.
-use Rattle.std.proofs.Common.{◌≡◌, ℕ, zero, suc, ◌+◌, ◌-◌, ◌%◌, ◌^◌, Bool, true, false, cond, eqb, List, [], ◌∷◌, ◌++◌, length, take, drop, sym, refl, ap, ◌∙◌, arith, length-append, take_at, eq-eqb, ne_eqb}
+use Rattle.std.proofs.Common.{◌≡◌, ℕ, ◌+◌, ◌-◌, ◌%◌, ◌^◌, Bool, true, false, cond, eqb, List, ◌++◌, length, take, drop, sym, refl, ap, ◌∙◌, arith, length-append, take_at, eq-eqb, ne_eqb}
 use Rattle.base.specs.Bytes.{le_bytes, le_nat}
 use Rattle.base.specs.Refused.{unless}
 use Rattle.base.specs.Stored.{stored}
-use Rattle.base.proofs.Bytes.{length-le_bytes}
 use Rattle.base.proofs.Refused.{unless-none, unless-some}
 use Rattle.base.proofs.Stored.{stored-two, stored-whole, stored-over}
 use Rattle.saved.specs.fields.Fields.{fields_at, fields}

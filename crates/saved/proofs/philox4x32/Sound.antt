@@ -4,7 +4,7 @@ use Rattle.base.specs.Table.{table}
 use Rattle.saved.specs.fields.Fields.{fields}
 use Rattle.saved.proofs.fields.Fields.{Bytes}
 use Rattle.philox.specs.x8.Claims.{Numbered}
-use Rattle.philox.specs.x8.Machine.{none8, fresh, sought, holding, past, next_of, drawn, grouped}
+use Rattle.philox.specs.x8.Machine.{none8, fresh, sought, holding, next_of, drawn, grouped}
 use Rattle.philox.specs.declared.x8.Philox4x32X8.{Philox4x32X8}
 use Rattle.philox.proofs.x8.Theorems.{keeps_number}
 use Rattle.saved.specs.philox4x32.Claims.{Words, settled, Restored}

@@ -1,12 +1,12 @@
 -- The claims of specs/philox4x32/Claims.antt. Assumes nothing.
 use Rattle.std.proofs.Common.{◌≡◌, ℕ, ◌+◌, ◌<◌, Bool, true, false, cond, ◌&&◌, ◌||◌, eqb, List, length, get_or, sym, refl, ap, ◌∙◌, true≢false, eq-eqb, ne_eqb}
-use mathlib.Core.Bool.{and_false}
+use mathlib.Core.Bool.{and-false}
 use Rattle.base.specs.Every.{every}
 use Rattle.base.proofs.Table.{length-table, get_or-table}
 use Rattle.saved.specs.fields.Fields.{fields}
 use Rattle.saved.proofs.fields.Tests.{all_pass, one_fails}
 use Rattle.philox.specs.x8.Claims.{Numbered}
-use Rattle.saved.specs.philox4x32.Claims.{upper_in, FormLength, LoadSaved, LoadNumbered, SaveLoaded, Refusals, MovedBack}
+use Rattle.saved.specs.philox4x32.Claims.{FormLength, LoadSaved, LoadNumbered, SaveLoaded, Refusals, MovedBack}
 use Rattle.saved.specs.philox4x32.Form.{layout, form_of, mark_in, waiting_in, number_in}
 use Rattle.saved.specs.philox4x32.Form.{of_fields, is_form, refused, parsed, is_numbered, loaded}
 use Rattle.saved.specs.declared.philox4x32.Loaded.{Loaded}
@@ -89,7 +89,7 @@ refusals s =
     unmarked-number : mark ≡ 0 → (number ≡ 0 → ⊥) → is_form mark waiting number ≡ false
     unmarked-number m q =
         form_by mark waiting number (ap (λ (k : ℕ). eqb k 1) m) (eq-eqb mark 0 m) refl (ne_eqb number 0 q)
-        ∙ and_false (every (λ x. eqb x 0) waiting)
+        ∙ and-false (every (λ x. eqb x 0) waiting)
 
     -- a form that is parsed is accepted where its words are its group's; one that isn't is refused so
     accepted : length s ≡ 104 → is_form mark waiting number ≡ true → is_numbered (of_fields f) ≡ true → (loaded s).refusal ≡ 0

@@ -1,7 +1,7 @@
 -- The form of an eight-lane generator as it is stored and read, both round trips, and which forms are accepted. Assumes nothing.
 use Rattle.std.proofs.Common.{◌≡◌, ℕ, ◌+◌, ◌*◌, ◌^◌, ◌<◌, Bool, true, false, cond, not, List, [], ◌∷◌, ◌++◌, length, get_or, take, drop, sym, refl, ap, ◌∙◌, ap₂, arith, length-append, pow_pos, eq-eqb, ne_eqb}
 use native.Mathlib.Decide.{ℕ_discrete}
-use borrow.Author.Tests.{not_true}
+use borrow.Author.Tests.{not-true}
 use Rattle.base.specs.Bytes.{le_bytes, le_nat, flat}
 use Rattle.base.specs.Every.{every}
 use Rattle.base.specs.Quad.{column, rows_of}
@@ -173,7 +173,7 @@ load-accepted s ok = elim (ℕ_discrete (length s) 256) [
     go e true v =
         record {
           long = e;
-          valid = λ i l. not_true (lane_zero s i) (each_passes is_valid 8 (lane_in (fields layout s)) v i l);
+          valid = λ i l. not-true (lane_zero s i) (each_passes is_valid 8 (lane_in (fields layout s)) v i l);
           holds = ap (λ (r : LanesAnswer). r.rng) (answered s e v);
         }
     go e false v = let three = ap (λ (r : LanesAnswer). r.refusal) (answered s e v) in absurd (omega arith)

@@ -1,12 +1,12 @@
 -- Jumps by the powers that the set bits of a number select are as many steps, or jumps, as the number says. Assumes nothing.
-use Rattle.std.proofs.Common.{◌≡◌, ℕ, suc, ◌+◌, ◌*◌, ◌/◌, ◌%◌, ◌^◌, ◌<◌, ◌≤◌, List, [], ◌∷◌, length, get_or, sym, ap, ◌∙◌, subst, ap₂, mod-lt, mod-eq_of_lt, zero-lt-suc, mul_comm, add-mul, add_comm, one-mul, zero-add, zero-mul, add-one, arith, pow-add}
+use Rattle.std.proofs.Common.{◌≡◌, ℕ, ◌+◌, ◌*◌, ◌/◌, ◌%◌, ◌^◌, ◌<◌, ◌≤◌, List, [], ◌∷◌, length, get_or, sym, ap, ◌∙◌, ap₂, mod-lt, mod-eq_of_lt, zero-lt-suc, mul_comm, add-mul, add_comm, one-mul, zero-add, zero-mul, arith, pow-add}
 use native.Mathlib.Nat.{mod-one}
 use lib.Pow.{mod-pow-add}
 use Rattle.base.specs.Iterate.{iterate}
 use Rattle.base.proofs.Iterate.{iterate-then}
 use Rattle.base.proofs.Quad.{list_four}
 use Rattle.xoshiro_steps.specs.Claims.{Words}
-use Rattle.xoshiro_steps.specs.Xoshiro256pp.{State, step, steps, jumped}
+use Rattle.xoshiro_steps.specs.Xoshiro256pp.{step, steps, jumped}
 use Rattle.xoshiro_steps.proofs.Theorems.{jumps_are}
 use Rattle.xoshiro_steps.proofs.Widths.{words-steps}
 use Rattle.xoshiro.specs.powers.Powers.{entry_of, Powers}

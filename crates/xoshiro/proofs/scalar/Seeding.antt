@@ -1,5 +1,5 @@
 -- Four draws of SplitMix64, and the guard: a state of words, not all of them zero. Assumes nothing.
-use Rattle.std.proofs.Common.{◌≡◌, ℕ, ◌/◌, ◌%◌, ◌^◌, ◌<◌, Bool, true, false, cond, sym, refl, ap, ◌∙◌, mod-lt, arith, lit<, pow_pos}
+use Rattle.std.proofs.Common.{◌≡◌, ℕ, ◌/◌, ◌^◌, ◌<◌, Bool, true, false, cond, sym, refl, ap, ◌∙◌, mod-lt, arith, lit<, pow_pos}
 use lib.Bits.{xor_lt}
 use Rattle.words.specs.Words.{xor_shifted}
 use Rattle.xoshiro.specs.splitmix64.SplitMix64.{started, drawn, mixed, mix_step}

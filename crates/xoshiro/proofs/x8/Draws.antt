@@ -1,12 +1,11 @@
 -- Draws are steps of every lane. Assumes nothing.
-use Rattle.std.proofs.Common.{◌≡◌, ℕ, zero, suc, ◌<◌, List, get_or, sym, refl, ap, ◌∙◌}
-use Rattle.base.specs.Iterate.{iterate}
+use Rattle.std.proofs.Common.{◌≡◌, ℕ, ◌<◌, List, get_or, sym, ap, ◌∙◌}
 use Rattle.base.specs.Quad.{rows_of}
 use Rattle.base.specs.Table.{table}
 use Rattle.base.proofs.Iterate.{iterate_keeps}
 use Rattle.base.proofs.Quad.{rows_of-same}
 use Rattle.base.proofs.Table.{length-table}
-use Rattle.xoshiro_steps.specs.Xoshiro256pp.{output, step, steps}
+use Rattle.xoshiro_steps.specs.Xoshiro256pp.{output, steps}
 use Rattle.xoshiro.specs.scalar.Calls.{generator, steps_made}
 use Rattle.xoshiro.specs.declared.scalar.Xoshiro256pp.{Xoshiro256pp}
 use Rattle.xoshiro.specs.rows.Lanes.{stepped}

@@ -5,7 +5,7 @@ use Rattle.base.specs.Table.{table}
 use Rattle.base.specs.Every.{every}
 use Rattle.base.specs.Quad.{column, rows_of}
 use Rattle.base.proofs.Quad.{column-rows_of, list_four}
-use Rattle.xoshiro_steps.specs.Xoshiro256pp.{State, step, jumps}
+use Rattle.xoshiro_steps.specs.Xoshiro256pp.{State, step}
 use Rattle.xoshiro.specs.scalar.Calls.{state_of, generator, accepted}
 use Rattle.xoshiro.specs.declared.scalar.Xoshiro256pp.{Xoshiro256pp}
 use Rattle.xoshiro.specs.rows.Lanes.{outputs}

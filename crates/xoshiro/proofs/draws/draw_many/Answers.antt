@@ -1,15 +1,14 @@
-use Rattle.std.proofs.Common.{◌≡◌, ℕ, ◌+◌, ◌-◌, ◌*◌, ◌≤◌, length, refl, ap, ◌∙◌, subst, arith, rules}
+use Rattle.std.proofs.Common.{◌≡◌, ◌+◌, ◌*◌, length, refl, ap, ◌∙◌, arith, rules}
 use Rattle.base.proofs.Engine.{none-drawn, drawn_more}
-use Rattle.base.specs.Engine.{DrawnAt}
 use Rattle.base.proofs.Stored.{length-stored}
 use Rattle.base.specs.Stored.{stored}
 use Rattle.xoshiro.proofs.x8.Theorems.{eight-words}
-use Rattle.xoshiro.specs.x8.Calls.{drawn, engine}
+use Rattle.xoshiro.specs.x8.Calls.{drawn}
 use Rattle.xoshiro.specs.declared.x8.Draw.{Draw}
 use Rattle.xoshiro.proofs.draws.draw_many.Goals as goal
 
 pub loop-j-init : goal.loop-j-init
-loop-j-init c = ?
+loop-j-init c = (search rules, refl, none-drawn refl)
 
 pub loop-j-preserved : goal.loop-j-preserved
 unfolding drawn

@@ -1,4 +1,4 @@
-use Rattle.std.proofs.Common.{refl, rules}
+use Rattle.std.proofs.Common.{refl}
 use Rattle.xoshiro.specs.powers.Powers.{entry_of}
 use Rattle.xoshiro.proofs.powers.entry.Goals as goal
 

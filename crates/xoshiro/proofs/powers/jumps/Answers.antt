@@ -3,7 +3,6 @@ use Rattle.base.specs.Table.{table}
 use Rattle.xoshiro_steps.proofs.Distance.{is_power, agree}
 use Rattle.xoshiro.specs.powers.Powers.{entry_of}
 use Rattle.xoshiro.proofs.powers.Powers.{powers_by}
-use Rattle.std.proofs.Common.{rules, ◌≤◌}
 use Rattle.xoshiro.proofs.powers.jumps.Goals as goal
 
 pub returns : goal.returns

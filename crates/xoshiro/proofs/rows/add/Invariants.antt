@@ -1,6 +1,5 @@
-use Rattle.std.proofs.Common.{◌+◌, ◌-◌, ◌%◌, ◌^◌, get_or, refl, arith, rules}
-use Rattle.base.proofs.Table.{Tabled, tabled_none, tabled_more, tabled_end}
-use Rattle.xoshiro.specs.rows.Rows.{sums}
+use Rattle.std.proofs.Common.{◌+◌, ◌%◌, ◌^◌, get_or}
+use Rattle.base.proofs.Table.{Tabled}
 use Rattle.xoshiro.proofs.rows.add.Given as goal
 
 abbrev pub invariant-loop-i : goal.invariant-loop-i

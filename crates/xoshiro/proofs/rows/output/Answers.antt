@@ -1,7 +1,4 @@
-use Rattle.std.proofs.Common.{rules}
 use Rattle.xoshiro.proofs.rows.Lanes.{outputs-rows}
-use Rattle.std.proofs.Common.{◌-◌}
-use Rattle.xoshiro.specs.rows.Lanes.{outputs}
 use Rattle.xoshiro.proofs.rows.output.Goals as goal
 
 pub returns : goal.returns

@@ -1,7 +1,6 @@
-use Rattle.std.proofs.Common.{◌-◌, ◌%◌, get_or, refl, arith, rules}
+use Rattle.std.proofs.Common.{◌%◌, get_or}
 use Rattle.words.specs.Words.{rotl}
-use Rattle.base.proofs.Table.{Tabled, tabled_none, tabled_more, tabled_end}
-use Rattle.xoshiro.specs.rows.Rows.{rotls}
+use Rattle.base.proofs.Table.{Tabled}
 use Rattle.xoshiro.proofs.rows.rotl.Given as goal
 
 abbrev pub invariant-loop-i : goal.invariant-loop-i

@@ -1,8 +1,7 @@
-use Rattle.std.proofs.Common.{◌-◌, ◌%◌, get_or, refl, arith}
+use Rattle.std.proofs.Common.{refl, arith}
 use Rattle.words.specs.Words.{shl}
-use Rattle.base.proofs.Table.{Tabled, tabled_none, tabled_more, tabled_end}
+use Rattle.base.proofs.Table.{tabled_more, tabled_end}
 use Rattle.xoshiro.specs.rows.Rows.{shls}
-use Rattle.std.proofs.Common.{rules, false}
 use Rattle.xoshiro.proofs.rows.shl.Goals as goal
 
 pub loop-i-preserved : goal.loop-i-preserved

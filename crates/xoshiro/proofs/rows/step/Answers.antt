@@ -1,12 +1,9 @@
 use Rattle.std.proofs.Common.{◌≡◌, length, rules}
 use Rattle.xoshiro.proofs.rows.Lanes.{stepped_in_place}
-use Rattle.std.proofs.Common.{◌-◌}
-use Rattle.xoshiro.specs.rows.Lanes.{stepped}
 use Rattle.xoshiro.proofs.rows.step.Goals as goal
 
 pub returns : goal.returns
 returns c =
-
     let rows = c.args.rows in
     let long : length rows ≡ 4 = search rules in
     stepped_in_place rows long

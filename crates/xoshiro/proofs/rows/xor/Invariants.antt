@@ -1,7 +1,6 @@
-use Rattle.std.proofs.Common.{◌-◌, get_or, refl, arith}
+use Rattle.std.proofs.Common.{get_or}
 use lib.Bits.{bit_xor}
-use Rattle.base.proofs.Table.{Tabled, tabled_none, tabled_more, tabled_end}
-use Rattle.xoshiro.specs.rows.Rows.{xors}
+use Rattle.base.proofs.Table.{Tabled}
 use Rattle.xoshiro.proofs.rows.xor.Given as goal
 
 abbrev pub invariant-loop-i : goal.invariant-loop-i

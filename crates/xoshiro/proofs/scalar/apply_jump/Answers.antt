@@ -1,11 +1,9 @@
-use Rattle.std.proofs.Common.{◌≡◌, ◌+◌, ◌-◌, ◌*◌, ◌≤◌, min, [], ◌∷◌, length, refl, ap, ◌∙◌, ⊎_elim, arith, rules}
-use Rattle.base.specs.Quad.{quad_of}
+use Rattle.std.proofs.Common.{◌≡◌, ◌+◌, ◌*◌, min, length, refl, ap, ◌∙◌, arith, rules}
 use Rattle.xoshiro_steps.specs.Xoshiro256pp.{none, bit_of}
 use Rattle.xoshiro_steps.proofs.Bits.{bit_here}
-use Rattle.xoshiro.proofs.scalar.Jumping.{Walk, walk_none, sum_set, sum_clear, walk_more, walk_word, walk_end}
-use Rattle.std.proofs.Common.{true, false}
-use Rattle.xoshiro_steps.specs.Xoshiro256pp.{step}
+use Rattle.xoshiro.proofs.scalar.Jumping.{walk_none, sum_set, sum_clear, walk_more, walk_word, walk_end}
 use Rattle.xoshiro.proofs.scalar.apply_jump.Goals as goal
+use Rattle.xoshiro.proofs.scalar.apply_jump.Goals.{then-bit-ne0, else-bit-ne0}
 
 pub loop-i-init : goal.loop-i-init
 unfolding none
@@ -24,9 +22,11 @@ loop-b-preserved c =
     let w = c.loop-b.invariant.1 in
     let room = c.room-below.ensures in
     let b = c.bit.ensures ∙ bit_here _ _ (omega arith) in
-    let way = c.if-bit-ne0.branch in
-    let on = ⊎_elim (λ a. sum_set w b a.0.taken (a.2 ∙ a.1.ensures)) (λ a. sum_clear w b a.0.left a.1) way in
-    (omega arith, walk_more w on c.stepped-next.ensures)
+    elim c.if-bit-ne0.branch [
+      | then-bit-ne0 v ↦
+          (omega arith, walk_more w (sum_set w b v.if-bit-ne0.true (v.acc-is ∙ v.xored-sum.ensures)) c.stepped-next.ensures)
+      | else-bit-ne0 v ↦ (omega arith, walk_more w (sum_clear w b v.if-bit-ne0.false v.acc-is) c.stepped-next.ensures)
+    ]
 
 pub loop-i-preserved : goal.loop-i-preserved
 loop-i-preserved c =

@@ -1,8 +1,7 @@
-use Rattle.std.proofs.Common.{◌≡◌, ◌+◌, ◌-◌, ◌*◌, ◌≤◌, min, [], ◌∷◌, length, refl, ap, ◌∙◌, ⊎_elim, arith, rules}
+use Rattle.std.proofs.Common.{◌*◌, ◌≤◌, min, [], ◌∷◌}
 use Rattle.base.specs.Quad.{quad_of}
-use Rattle.xoshiro_steps.specs.Xoshiro256pp.{none, bit_of}
-use Rattle.xoshiro_steps.proofs.Bits.{bit_here}
-use Rattle.xoshiro.proofs.scalar.Jumping.{Walk, walk_none, sum_set, sum_clear, walk_more, walk_word, walk_end}
+use Rattle.xoshiro_steps.specs.Xoshiro256pp.{none}
+use Rattle.xoshiro.proofs.scalar.Jumping.{Walk}
 use Rattle.xoshiro.proofs.scalar.apply_jump.Given as goal
 
 abbrev pub invariant-loop-b : goal.invariant-loop-b

@@ -1,7 +1,6 @@
-use Rattle.std.proofs.Common.{◌≡◌, ◌+◌, ◌-◌, ◌*◌, ◌≤◌, sym, refl, ap, ◌∙◌, arith, rules}
+use Rattle.std.proofs.Common.{◌≡◌, ◌+◌, ◌-◌, ◌*◌, sym, refl, ap, ◌∙◌, arith}
 use Rattle.xoshiro_steps.specs.Xoshiro256pp.{highest_below, highest_of}
 use Rattle.xoshiro_steps.proofs.Bits.{bit_here, within, word_set, word_clear, highest_zero}
-use Rattle.std.proofs.Common.{true, false}
 use Rattle.xoshiro.proofs.scalar.highest.Goals as goal
 
 pub loop-i-init : goal.loop-i-init

@@ -1,6 +1,5 @@
-use Rattle.std.proofs.Common.{◌≡◌, ◌+◌, ◌-◌, ◌*◌, ◌≤◌, sym, refl, ap, ◌∙◌, arith, rules}
+use Rattle.std.proofs.Common.{◌≡◌, ◌*◌, ◌≤◌}
 use Rattle.xoshiro_steps.specs.Xoshiro256pp.{highest_below, highest_of}
-use Rattle.xoshiro_steps.proofs.Bits.{bit_here, within, word_set, word_clear, highest_zero}
 use Rattle.xoshiro.proofs.scalar.highest.Given as goal
 
 abbrev pub invariant-loop-i : goal.invariant-loop-i

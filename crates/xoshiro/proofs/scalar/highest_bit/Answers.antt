@@ -1,7 +1,5 @@
-use Rattle.std.proofs.Common.{sym, arith}
-use lib.Count.{leading_le}
-use Rattle.xoshiro_steps.proofs.Bits.{zero_highest, some-zeros, word_highest}
-use Rattle.std.proofs.Common.{rules, ◌-◌, true, false}
+use Rattle.std.proofs.Common.{sym}
+use Rattle.xoshiro_steps.proofs.Bits.{zero_highest, word_highest}
 use Rattle.xoshiro.proofs.scalar.highest_bit.Goals as goal
 
 pub returns-then-word-eq0 : goal.returns-then-word-eq0

@@ -1,4 +1,4 @@
-use Rattle.std.proofs.Common.{refl, rules}
+use Rattle.std.proofs.Common.{refl}
 use Rattle.xoshiro_steps.specs.Xoshiro256pp.{all_zero}
 use Rattle.xoshiro.proofs.scalar.is_zero.Goals as goal
 

@@ -1,4 +1,3 @@
-use Rattle.std.proofs.Common.{rules}
 use Rattle.words.specs.Words.{shl}
 use Rattle.xoshiro_steps.specs.Xoshiro256pp.{step}
 use Rattle.xoshiro.proofs.scalar.stepped.Goals as goal

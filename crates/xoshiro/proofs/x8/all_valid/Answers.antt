@@ -1,5 +1,5 @@
-use Rattle.std.proofs.Common.{◌-◌, not, ap, arith, rules}
-use Rattle.base.proofs.Every.{Tested, tested_none, tested_more, tested_end}
+use Rattle.std.proofs.Common.{not, ap, arith}
+use Rattle.base.proofs.Every.{tested_more}
 use Rattle.xoshiro.specs.x8.Calls.{is_valid, no_lane}
 use Rattle.xoshiro.proofs.x8.all_valid.Goals as goal
 

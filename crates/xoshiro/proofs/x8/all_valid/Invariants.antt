@@ -1,6 +1,5 @@
-use Rattle.std.proofs.Common.{◌-◌, not, ap, arith, rules}
-use Rattle.base.proofs.Every.{Tested, tested_none, tested_more, tested_end}
-use Rattle.xoshiro.specs.x8.Calls.{is_valid, no_lane}
+use Rattle.base.proofs.Every.{Tested}
+use Rattle.xoshiro.specs.x8.Calls.{is_valid}
 use Rattle.xoshiro.proofs.x8.all_valid.Given as goal
 
 abbrev pub invariant-loop-i : goal.invariant-loop-i

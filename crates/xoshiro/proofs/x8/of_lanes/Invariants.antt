@@ -1,8 +1,7 @@
-use Rattle.std.proofs.Common.{◌-◌, get_or, refl, ap, arith}
-use Rattle.base.proofs.Quad.{Columns, columns_none, columns_more, columns_end}
+use Rattle.std.proofs.Common.{get_or}
+use Rattle.base.proofs.Quad.{Columns}
 use Rattle.xoshiro.specs.scalar.Calls.{state_of}
-use Rattle.xoshiro.specs.x8.Lanes.{of_rows}
-use Rattle.xoshiro.specs.x8.Calls.{of_lanes, no_lane}
+use Rattle.xoshiro.specs.x8.Calls.{no_lane}
 use Rattle.xoshiro.proofs.x8.of_lanes.Given as goal
 
 abbrev pub invariant-loop-i : goal.invariant-loop-i

@@ -1,9 +1,7 @@
-use Rattle.std.proofs.Common.{sym, ap, ◌∙◌, rules}
+use Rattle.std.proofs.Common.{sym, ap, ◌∙◌}
 use Rattle.xoshiro.specs.scalar.Seeded.{seeded, kept}
 use Rattle.xoshiro.specs.scalar.Calls.{generator}
 use Rattle.xoshiro.proofs.scalar.Seeding.{drawn-words, kept-zero, kept_other}
-use Rattle.std.proofs.Common.{◌-◌, true, false}
-use Rattle.xoshiro.specs.scalar.Calls.{drawn}
 use Rattle.xoshiro.proofs.scalar.Xoshiro256pp.from_seed.Goals as goal
 
 pub returns-then-is_zero : goal.returns-then-is_zero

@@ -1,6 +1,5 @@
-use Rattle.std.proofs.Common.{sym, ◌∙◌, rules}
+use Rattle.std.proofs.Common.{sym, ◌∙◌}
 use Rattle.xoshiro.specs.scalar.Calls.{checked}
-use Rattle.std.proofs.Common.{◌-◌, true, false}
 use Rattle.xoshiro.proofs.scalar.Xoshiro256pp.from_state.Goals as goal
 
 pub returns-then-is_zero : goal.returns-then-is_zero

@@ -1,4 +1,3 @@
-use Rattle.std.proofs.Common.{rules}
 use Rattle.xoshiro_steps.specs.Xoshiro256pp.{output}
 use Rattle.xoshiro.specs.scalar.Calls.{drawn}
 use Rattle.xoshiro.proofs.scalar.Xoshiro256pp.next_u64.Goals as goal

@@ -1,4 +1,3 @@
-use Rattle.std.proofs.Common.{rules}
 use Rattle.words.specs.Words.{xor_shifted}
 use Rattle.xoshiro.specs.splitmix64.SplitMix64.{advanced, mix_step, mixed, drawn}
 use Rattle.xoshiro.proofs.splitmix64.SplitMix64.next_u64.Goals as goal

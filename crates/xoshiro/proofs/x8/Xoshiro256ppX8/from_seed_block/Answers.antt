@@ -1,28 +1,23 @@
-use Rattle.std.proofs.Common.{◌≡◌, ◌+◌, ◌-◌, ◌≤◌, length, replicate, refl, ap, ◌∙◌, zero-lt-suc, arith, rules}
-use Rattle.base.proofs.Table.{Tabled, tabled_none, tabled_more, tabled_end}
+use Rattle.std.proofs.Common.{length, replicate, refl, ap, ◌∙◌, zero-lt-suc, arith}
+use Rattle.base.proofs.Table.{tabled_none, tabled_more, tabled_end}
 use Rattle.xoshiro.specs.scalar.Calls.{jumps_made}
 use Rattle.xoshiro.specs.declared.scalar.Xoshiro256pp.{Xoshiro256pp}
 use Rattle.xoshiro.proofs.scalar.Jumping.{jumps-none, jumps_more}
-use Rattle.xoshiro.specs.x8.Calls.{no_lane}
 use Rattle.xoshiro.proofs.x8.Lanes.{placed_by}
-use Rattle.xoshiro.specs.x8.Calls.{of_lanes, placed}
 use Rattle.xoshiro.proofs.x8.Xoshiro256ppX8.from_seed_block.Goals as goal
 
 pub loop-i-init : goal.loop-i-init
 loop-i-init c =
-
     let at = c.jumps-at.result in
     let start = jumps-none at (ap (λ (g : Xoshiro256pp). length g.s) c.jumps-at.ensures) in
     (omega arith, start, tabled_more {out = replicate 8 at} (tabled_none refl) (zero-lt-suc 7) start)
 
 pub loop-i-preserved : goal.loop-i-preserved
 loop-i-preserved c =
-
     let on = jumps_more _ c.jumps-at.result c.loop-i.invariant.1 c.jump-next.ensures in
     (omega arith, on, tabled_more c.loop-i.invariant.2 (omega arith) on)
 
 pub returns : goal.returns
 returns c =
-
     let at = c.jumps-at.ensures ∙ ap (jumps_made c.wrapping_mul-jumps.result) c.from_seed.ensures in
     placed_by c.args.seed c.args.block c.wrapping_mul-jumps.ensures at (tabled_end c.loop-i.invariant.2 (omega arith)) c.of_lanes-rng.ensures

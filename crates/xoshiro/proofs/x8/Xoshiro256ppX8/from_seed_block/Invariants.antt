@@ -1,10 +1,7 @@
-use Rattle.std.proofs.Common.{◌≡◌, ◌+◌, ◌-◌, ◌≤◌, length, replicate, refl, ap, ◌∙◌, zero-lt-suc, arith, rules}
-use Rattle.base.proofs.Table.{Tabled, tabled_none, tabled_more, tabled_end}
+use Rattle.std.proofs.Common.{◌≡◌, ◌+◌, ◌≤◌}
+use Rattle.base.proofs.Table.{Tabled}
 use Rattle.xoshiro.specs.scalar.Calls.{jumps_made}
-use Rattle.xoshiro.specs.declared.scalar.Xoshiro256pp.{Xoshiro256pp}
-use Rattle.xoshiro.proofs.scalar.Jumping.{jumps-none, jumps_more}
 use Rattle.xoshiro.specs.x8.Calls.{no_lane}
-use Rattle.xoshiro.proofs.x8.Lanes.{placed_by}
 use Rattle.xoshiro.proofs.x8.Xoshiro256ppX8.from_seed_block.Given as goal
 
 abbrev pub invariant-loop-i : goal.invariant-loop-i

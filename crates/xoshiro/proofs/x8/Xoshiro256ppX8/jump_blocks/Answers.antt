@@ -1,12 +1,8 @@
-use Rattle.std.proofs.Common.{◌-◌, refl, ap, ◌∙◌, arith, rules}
-use Rattle.base.proofs.Table.{Tabled, tabled_none, tabled_more, tabled_end}
+use Rattle.std.proofs.Common.{ap, ◌∙◌, arith}
+use Rattle.base.proofs.Table.{tabled_more, tabled_end}
 use Rattle.xoshiro.specs.declared.scalar.Answer.{Answer}
-use Rattle.xoshiro.specs.scalar.Calls.{generator, jumps_made}
-use Rattle.xoshiro.specs.x8.Lanes.{lane_of}
-use Rattle.xoshiro.specs.x8.Calls.{no_lane}
+use Rattle.xoshiro.specs.scalar.Calls.{jumps_made}
 use Rattle.xoshiro.proofs.x8.Lanes.{moved_by, lane_accepted}
-use Rattle.std.proofs.Common.{false}
-use Rattle.xoshiro.specs.x8.Calls.{of_lanes}
 use Rattle.xoshiro.proofs.x8.Xoshiro256ppX8.jump_blocks.Goals as goal
 
 pub loop-i-preserved : goal.loop-i-preserved

@@ -1,8 +1,7 @@
-use Rattle.std.proofs.Common.{sym, rules, le-ltb}
+use Rattle.std.proofs.Common.{sym, le-ltb}
 use Rattle.base.specs.Quad.{column}
 use Rattle.xoshiro.specs.x8.Calls.{lane_call}
 use Rattle.xoshiro.proofs.x8.Lanes.{lane_accepted}
-use Rattle.std.proofs.Common.{◌-◌, true, false}
 use Rattle.xoshiro.proofs.x8.Xoshiro256ppX8.lane.Goals as goal
 
 pub returns-then-i-lt8 : goal.returns-then-i-lt8

@@ -1,8 +1,7 @@
-use Rattle.std.proofs.Common.{ap, ◌∙◌, rules}
+use Rattle.std.proofs.Common.{ap, ◌∙◌}
 use Rattle.xoshiro.specs.rows.Lanes.{outputs, stepped}
 use Rattle.xoshiro.specs.x8.Lanes.{of_rows}
 use Rattle.xoshiro.specs.x8.Calls.{drawn, words_of, next_of}
-use Rattle.std.proofs.Common.{◌-◌}
 use Rattle.xoshiro.proofs.x8.Xoshiro256ppX8.next_u64x8.Goals as goal
 
 pub returns : goal.returns

@@ -1,14 +1,10 @@
-use Rattle.std.proofs.Common.{◌≡◌, ◌-◌, length, refl, ap, ◌∙◌, arith, rules}
-use Rattle.base.proofs.Table.{Tabled, tabled_none, tabled_more, tabled_end}
+use Rattle.std.proofs.Common.{◌≡◌, length, ap, ◌∙◌, arith, rules}
+use Rattle.base.proofs.Table.{tabled_more, tabled_end}
 use Rattle.xoshiro.specs.declared.scalar.Answer.{Answer}
-use Rattle.xoshiro.specs.scalar.Calls.{generator, steps_made}
-use Rattle.xoshiro.specs.x8.Lanes.{lane_of}
-use Rattle.xoshiro.specs.x8.Calls.{no_lane}
+use Rattle.xoshiro.specs.scalar.Calls.{steps_made}
 use Rattle.xoshiro.specs.x8.Claims.{Eights}
 use Rattle.xoshiro.proofs.x8.Draws.{skipped_by}
 use Rattle.xoshiro.proofs.x8.Lanes.{lane_accepted}
-use Rattle.std.proofs.Common.{false}
-use Rattle.xoshiro.specs.x8.Calls.{of_lanes, skipped}
 use Rattle.xoshiro.proofs.x8.Xoshiro256ppX8.skip.Goals as goal
 
 pub loop-i-preserved : goal.loop-i-preserved

@@ -1,12 +1,7 @@
-use Rattle.std.proofs.Common.{◌≡◌, ◌-◌, length, refl, ap, ◌∙◌, arith, rules}
-use Rattle.base.proofs.Table.{Tabled, tabled_none, tabled_more, tabled_end}
-use Rattle.xoshiro.specs.declared.scalar.Answer.{Answer}
+use Rattle.base.proofs.Table.{Tabled}
 use Rattle.xoshiro.specs.scalar.Calls.{generator, steps_made}
 use Rattle.xoshiro.specs.x8.Lanes.{lane_of}
 use Rattle.xoshiro.specs.x8.Calls.{no_lane}
-use Rattle.xoshiro.specs.x8.Claims.{Eights}
-use Rattle.xoshiro.proofs.x8.Draws.{skipped_by}
-use Rattle.xoshiro.proofs.x8.Lanes.{lane_accepted}
 use Rattle.xoshiro.proofs.x8.Xoshiro256ppX8.skip.Given as goal
 
 abbrev pub invariant-loop-i : goal.invariant-loop-i

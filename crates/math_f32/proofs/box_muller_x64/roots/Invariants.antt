@@ -1,0 +1,8 @@
+use Rattle.std.proofs.Common.{get_or}
+use lib.Ieee.{nan, binary32}
+use Rattle.base.proofs.Table.{Mapped}
+use Rattle.math.specs.Sqrt.{sqrt}
+use Rattle.math_f32.proofs.box_muller_x64.roots.Given as goal
+
+abbrev pub invariant-loop-i : goal.invariant-loop-i
+invariant-loop-i l = Mapped 64 (λ j. sqrt binary32 (get_or l.initial.v j nan)) nan l.initial.v l.v l.i

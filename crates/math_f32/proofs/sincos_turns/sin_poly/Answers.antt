@@ -1,0 +1,9 @@
+use lib.Ieee.{of_bits, round, sub, neg}
+use Rattle.std.proofs.Common.{refl}
+use Rattle.floats.specs.patterns.Polynomial.{horner}
+use Rattle.math.specs.Turns.{sin_poly, sin_coefficients64}
+use Rattle.math_f32.proofs.sincos_turns.sin_poly.Goals as goal
+
+pub returns : goal.returns
+unfolding sin_poly sin_coefficients64 horner of_bits round sub neg
+returns c = refl

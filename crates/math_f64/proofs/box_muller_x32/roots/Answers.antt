@@ -1,0 +1,5 @@
+use Rattle.base.proofs.Table.{tabled_end}
+use Rattle.math_f64.proofs.box_muller_x32.roots.Goals as goal
+
+pub returns : goal.returns
+returns c = tabled_end c.loop-i.invariant.tabled c.loop-i-test.false

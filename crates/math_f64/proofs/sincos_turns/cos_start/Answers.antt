@@ -1,0 +1,10 @@
+use lib.Ieee.{of_bits, round, sub, neg}
+use Rattle.std.proofs.Common.{refl}
+use Rattle.floats.specs.patterns.Polynomial.{horner}
+use Rattle.math.specs.Turns.{cos_coefficients64}
+use Rattle.math_f64.specs.sincos_turns.Lanes.{cos_start}
+use Rattle.math_f64.proofs.sincos_turns.cos_start.Goals as goal
+
+pub returns : goal.returns
+unfolding cos_start cos_coefficients64 horner of_bits round sub neg
+returns c = refl
