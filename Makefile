@@ -28,7 +28,7 @@ ARCHIVE =
 PLAIN = $(or $(ARCHIVE),$(COMPILED)/x86-64/libgirderpeach.a)
 HIGHER = $(if $(ARCHIVE),,$(LEVELS))
 
-PROVED := crates.txt $(shell find crates -name '*.rt' -o -name '*.antt')
+PROVED := crates.txt $(shell find crates -path '*/out' -prune -o '(' -name '*.rt' -o -name '*.antt' ')' -print)
 
 # An archive of which the proof failed does not stay. And one thing at a time: two runs of rt would write to the same logs.
 .DELETE_ON_ERROR:
@@ -39,14 +39,15 @@ PROVED := crates.txt $(shell find crates -name '*.rt' -o -name '*.antt')
 test:
 	@RUST_SRC='$(RUST_SRC)' tests/run
 
-# Proved again only when a file changed: it takes the better part of a minute.
-$(COMPILED)/%.made: $(PROVED) tools/compile
+# Proved again only when a file changed: it takes the better part of a minute, and where `rt ci` has not just run more (tools/build).
+$(COMPILED)/%.made: $(PROVED) tools/compile tools/build
 	@rm -f $@
 	tools/compile $* $(COMPILED) x86-64 $(LEVELS)
 	@touch $@
 
-target/staticlib/lib%.a: $(PROVED)
-	rt staticlib $*
+target/staticlib/lib%.a: $(PROVED) tools/build
+	@mkdir -p $(@D)
+	tools/build $* $@
 
 ORDER = xoshiro 42 0 0 normal_f64 20
 

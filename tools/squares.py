@@ -11,7 +11,7 @@ LONG_JUMP = [0x76E15D3EFEFDCBBF, 0xC5004E441C522FB3, 0x77710069854EE241, 0x39109
 HEAD = """\
 -- The polynomial of a step, and x squared 192 times modulo it, by tools/squares.py: certificates, which the prover checks by computing. Bit k of a
 -- number is the coefficient of x ^ k. Assumes nothing.
-use mathlib.Core.List.{List, [], _∷_}
+use mathlib.Core.List.{List, [], ◌∷◌}
 use Prim.Native.Nat.{ℕ}
 
 abbrev pub polynomial : ℕ

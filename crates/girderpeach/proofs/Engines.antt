@@ -5,7 +5,7 @@ use mathlib.Core.List.{List}
 use mathlib.Core.Path.{◌≡◌, refl, sym, ap, ◌∙◌}
 use Prim.Native.Nat.{ℕ, zero, suc, ◌≤◌}
 use native.Mathlib.Omega.{arith}
-use borrow.Author.Tests.{not_true, not-false}
+use borrow.Author.Tests.{not-true, not-false}
 use lib.Dec.{eqb}
 use lib.ListN.{length}
 use Rattle.base.specs.Every.{every}
@@ -31,9 +31,9 @@ use Rattle.girderpeach.specs.Xoshiro as xoshiro
 use Rattle.girderpeach.proofs.Host.{first-none, first_some, length_yes, answer_done, Sound}
 
 -- ---- eight lanes
-from_lanes : (lanes : List Xoshiro256pp) → (from_lanes lanes).refusal ≤ 14
+from_lanes_lem : (lanes : List Xoshiro256pp) → (from_lanes lanes).refusal ≤ 14
 unfolding from_lanes
-from_lanes lanes = go (every is_valid lanes)
+from_lanes_lem lanes = go (every is_valid lanes)
   where
     go : (b : Bool) → (cond {A = LanesAnswer} b (record { refusal = 0; rng = of_lanes lanes })
         (record { refusal = 3; rng = blank8 })).refusal ≤ 14
@@ -46,7 +46,7 @@ xoshiro_sound = record { few = λ s. few (eqb (length s) 256) s; sized = λ s. s
   where
     few : (b : Bool) (s : List ℕ) → (cond {A = LanesAnswer} b (from_lanes (table 8 (lane_in (fields layout s))))
         (record { refusal = 1; rng = blank8 })).refusal ≤ 14
-    few true s = from_lanes (table 8 (lane_in (fields layout s)))
+    few true s = from_lanes_lem (table 8 (lane_in (fields layout s)))
     few false s = omega arith
 
     sized : (b : Bool) (s : List ℕ) → (cond {A = LanesAnswer} b (from_lanes (table 8 (lane_in (fields layout s)))) (record { refusal = 1; rng = blank8 })).refusal ≡ 0 → ◌≡◌ {A = ℕ} (cond b 0 1) 0
@@ -106,7 +106,7 @@ module _ (form : List ℕ) (k : ℕ) (out : List ℕ) {told : Loaded} (et : told
       last = sym (first-none _ _ (sym er ∙ zr)) ∙ later
 
       pub group-refused : not ok ≡ true → 14 ≡ number
-      group-refused h = ap (λ (r : Loaded). r.refusal) (load_by form et eo (not_true ok h)) ∙ last
+      group-refused h = ap (λ (r : Loaded). r.refusal) (load_by form et eo (not-true ok h)) ∙ last
 
       pub is-loaded : not ok ≡ false → told ≡ philox-form.loaded form
       is-loaded h = load_by form et eo (not-false ok h)

@@ -12,7 +12,7 @@ use Rattle.base.specs.Engine.{Engine, words_from}
 use Rattle.base.proofs.Refused.{unless-none, unless-some}
 use Rattle.base.specs.Refused.{unless}
 use Rattle.base.specs.Iterate.{iterate}
-use Rattle.fills.specs.FillBytes.{refusal_of, bytes_written, bytes_draws, FilledBytes}
+use Rattle.fills.specs.FillBytes.{bytes_written, bytes_draws, FilledBytes}
 use Rattle.saved.specs.fields.Saved.{length_refusal, Written, Saved}
 use Rattle.girderpeach.specs.Host.{answer_of, first_of, Called, Forms, fill_refusal, HostFill, HostSkip}
 use Rattle.girderpeach.proofs.Draws.{few_draws, few_kind_refusals}

@@ -1,5 +1,5 @@
-// Girderpeach for C (include/girderpeach.h): fills of both engines from a saved form, which each accepted call replaces with the state after
-// it. An answer is a number, or minus a refusal's number; a refused call changes no byte.
+// The calls of Girderpeach for C (`girderpeach_c` exports them, include/girderpeach.h): fills of both engines from a saved form, which each
+// accepted call replaces with the state after it. An answer is a number, or minus a refusal's number; a refused call changes no byte.
 #![tactic(auto)]
 
 ghost use Rattle.std.specs.Prelude.{◌≡◌, ◌≤◌, ◌<◌, ◌^◌};
@@ -22,8 +22,7 @@ fn answer_of(refusal: u64, value: u64) -> i64
 }
 
 // Fills `out` with the bytes of kind `kind`, and replaces `form`. Answers the draws made.
-#[unsafe(no_mangle)]
-pub extern "C" fn gp_xoshiro_fill(form: &mut [u8], kind: u64, out: &mut [u8]) -> i64
+pub fn gp_xoshiro_fill(form: &mut [u8], kind: u64, out: &mut [u8]) -> i64
     ensures { Filled form.old kind out.old result form.new out.new }
 {
     let g = xoshiro256pp::load(form);
@@ -41,8 +40,7 @@ pub extern "C" fn gp_xoshiro_fill(form: &mut [u8], kind: u64, out: &mut [u8]) ->
 }
 
 // The same, of a Philox form. Words that aren't their group's are refused after a kind or a length.
-#[unsafe(no_mangle)]
-pub extern "C" fn gp_philox_fill(form: &mut [u8], kind: u64, out: &mut [u8]) -> i64
+pub fn gp_philox_fill(form: &mut [u8], kind: u64, out: &mut [u8]) -> i64
     ensures { philox.Filled form.old kind out.old result form.new out.new }
 {
     let g = philox4x32::parse(form);
@@ -64,8 +62,7 @@ pub extern "C" fn gp_philox_fill(form: &mut [u8], kind: u64, out: &mut [u8]) -> 
 }
 
 // Writes the form of block `block` of `seed`, and the jumps that the block counts.
-#[unsafe(no_mangle)]
-pub extern "C" fn gp_xoshiro_new(seed: u64, block: u64, form: &mut [u8], jumps: &mut u64) -> i64
+pub fn gp_xoshiro_new(seed: u64, block: u64, form: &mut [u8], jumps: &mut u64) -> i64
     ensures { New seed block form.old jumps.old result form.new jumps.new }
 {
     // tested first: a refused call makes no jumps
@@ -80,8 +77,7 @@ pub extern "C" fn gp_xoshiro_new(seed: u64, block: u64, form: &mut [u8], jumps: 
 }
 
 // Moves the form by `n` blocks, and writes the jumps that the move counts.
-#[unsafe(no_mangle)]
-pub extern "C" fn gp_xoshiro_jump_blocks(form: &mut [u8], n: u64, jumps: &mut u64) -> i64
+pub fn gp_xoshiro_jump_blocks(form: &mut [u8], n: u64, jumps: &mut u64) -> i64
     ensures { JumpedBlocks n form.old jumps.old result form.new jumps.new }
 {
     let g = xoshiro256pp::load(form);
@@ -97,8 +93,7 @@ pub extern "C" fn gp_xoshiro_jump_blocks(form: &mut [u8], n: u64, jumps: &mut u6
 }
 
 // Moves the form on by `draws` draws, as if they had been made.
-#[unsafe(no_mangle)]
-pub extern "C" fn gp_xoshiro_skip(form: &mut [u8], draws: u64) -> i64
+pub fn gp_xoshiro_skip(form: &mut [u8], draws: u64) -> i64
     ensures { Skipped draws form.old result form.new }
 {
     let g = xoshiro256pp::load(form);
@@ -112,8 +107,7 @@ pub extern "C" fn gp_xoshiro_skip(form: &mut [u8], draws: u64) -> i64
 }
 
 // Writes the form of stream `stream` of key `seed`, counter 0.
-#[unsafe(no_mangle)]
-pub extern "C" fn gp_philox_new(seed: u64, stream: u64, form: &mut [u8]) -> i64
+pub fn gp_philox_new(seed: u64, stream: u64, form: &mut [u8]) -> i64
     ensures { philox.New seed stream form.old result form.new }
 {
     let rng = philox::x8::Philox4x32X8::new(seed, stream);
@@ -122,8 +116,7 @@ pub extern "C" fn gp_philox_new(seed: u64, stream: u64, form: &mut [u8]) -> i64
 }
 
 // Block `block` is next, and no words wait.
-#[unsafe(no_mangle)]
-pub extern "C" fn gp_philox_seek(form: &mut [u8], block: u64) -> i64
+pub fn gp_philox_seek(form: &mut [u8], block: u64) -> i64
     ensures { philox.Sought block form.old result form.new }
 {
     let g = philox4x32::load(form);
@@ -137,8 +130,7 @@ pub extern "C" fn gp_philox_seek(form: &mut [u8], block: u64) -> i64
 }
 
 // Moves the form on by `draws` draws, as if they had been made.
-#[unsafe(no_mangle)]
-pub extern "C" fn gp_philox_skip(form: &mut [u8], draws: u64) -> i64
+pub fn gp_philox_skip(form: &mut [u8], draws: u64) -> i64
     ensures { philox.Skipped draws form.old result form.new }
 {
     let g = philox4x32::load(form);
@@ -152,8 +144,7 @@ pub extern "C" fn gp_philox_skip(form: &mut [u8], draws: u64) -> i64
 }
 
 // Answers the draws that the whole groups before counter 2^64 still hold, and the draw that waits.
-#[unsafe(no_mangle)]
-pub extern "C" fn gp_philox_draws_left(form: &[u8]) -> i64
+pub fn gp_philox_draws_left(form: &[u8]) -> i64
     ensures { result ≡ philox.draws_left form.now }
 {
     let g = philox4x32::load(form);
@@ -166,8 +157,7 @@ pub extern "C" fn gp_philox_draws_left(form: &[u8]) -> i64
 }
 
 // Writes the first block of the next draw's group. Answers 0 where the draw is the group's lower half, 1 where it is the upper.
-#[unsafe(no_mangle)]
-pub extern "C" fn gp_philox_label(form: &[u8], first: &mut u64) -> i64
+pub fn gp_philox_label(form: &[u8], first: &mut u64) -> i64
     ensures { philox.Labelled form.now first.old result first.new }
 {
     let g = philox4x32::load(form);
@@ -184,8 +174,7 @@ pub extern "C" fn gp_philox_label(form: &[u8], first: &mut u64) -> i64
 }
 
 // Moves the form of 96 bytes `old` to the form of 104 bytes `form`.
-#[unsafe(no_mangle)]
-pub extern "C" fn gp_philox_from_96(old: &[u8], form: &mut [u8]) -> i64
+pub fn gp_philox_from_96(old: &[u8], form: &mut [u8]) -> i64
     ensures { philox.From96 old.now form.old result form.new }
 {
     let moved = philox4x32::from_96(old, form);
@@ -193,8 +182,7 @@ pub extern "C" fn gp_philox_from_96(old: &[u8], form: &mut [u8]) -> i64
 }
 
 // Moves the form of 104 bytes `form` to the form of 96 bytes `old`.
-#[unsafe(no_mangle)]
-pub extern "C" fn gp_philox_to_96(form: &[u8], old: &mut [u8]) -> i64
+pub fn gp_philox_to_96(form: &[u8], old: &mut [u8]) -> i64
     ensures { philox.To96 form.now old.old result old.new }
 {
     let back = philox4x32::to_96(form, old);

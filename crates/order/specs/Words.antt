@@ -1,5 +1,5 @@
 -- Words and numbers among a program's arguments. An argument stands in an array of zeros that is longer than it, so that a 0 ends it.
-use Rattle.std.specs.Prelude.{Bool, true, false, ◌&&◌, cond, List, [], ◌∷◌, ℕ, eqb}
+use Rattle.std.specs.Prelude.{Bool, true, false, ◌&&◌, List, [], ◌∷◌, ℕ, eqb}
 use Rattle.text.specs.decimal.Number.{number_at}
 use Rattle.text.specs.declared.decimal.Number.{Number}
 use Rattle.text.specs.declared.decimal.Number.TheVariants.{Value, Wrong}

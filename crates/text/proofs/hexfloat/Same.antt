@@ -1,7 +1,7 @@
 -- Two values that a format holds are one where they are the same fraction. Assumes nothing.
 use Rattle.std.proofs.Common.{◌≡◌, ℕ, ◌+◌, ◌-◌, ◌*◌, ◌/◌, ◌^◌, ◌<◌, Bool, cond, T, sym, ap, ◌∙◌, mul_right_comm}
 use native.Mathlib.Nat.{eq_of_mul-eq-mul_right}
-use lib.Ieee.{Float, fin, Format, prec, low, up, down, size, top, hid, fits, of_bits, to_bits}
+use lib.Ieee.{Float, fin, Format, prec, low, up, down, size, top, hid, fits, of_bits, to_bits, inf, nan}
 use lib.Ieee.Bits.{of_bits-to_bits}
 use lib.Ieee.Exact.{HasValue}
 use lib.Ieee.Fits.{down_pos}
@@ -18,6 +18,8 @@ bits_of f (fin t m e) s a c p v =
     div_same (m * up e * 2 ^ low f) (down e) (a * 2 ^ low f) c (down_pos e) p
     (mul_right_comm (m * up e) (2 ^ low f) c ∙ ap (λ (z : ℕ). z * 2 ^ low f) v.1 ∙ mul_right_comm a (down e) (2 ^ low f)) in
     ap (λ (z : ℕ). pattern f t z) n ∙ ap (λ (z : Bool). pattern f z (a * 2 ^ low f / c)) v.0
+bits_of f nan s a c p v = elim v [ ]
+bits_of f (inf _) s a c p v = elim v [ ]
 
 pub same-value : (f : Format) (x y : Float) (s : Bool) (a c : ℕ) → 0 < c → T (fits f x) → T (fits f y) → HasValue x s a c → HasValue y s a c → x ≡ y
 same-value f x y s a c p fx fy vx vy =
@@ -34,3 +36,5 @@ rescale (fin t m e) s w l num den p h v = (
       ∙ ap (λ (x : ℕ). x * down e) (sym h)
       ∙ mul_right_comm num l (down e)),
 )
+rescale nan s w l num den p h v = elim v [ ]
+rescale (inf _) s w l num den p h v = elim v [ ]

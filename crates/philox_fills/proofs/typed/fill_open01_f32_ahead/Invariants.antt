@@ -1,0 +1,13 @@
+use Prim.Native.Nat.{◌-◌}
+use Rattle.fills.proofs.Filling.{Filling}
+use Rattle.fills.specs.Kinds.{open01_f32s}
+use Rattle.philox.specs.x8.Machine.{engine}
+use lib.ListN.{length}
+use mathlib.Core.Path.{◌≡◌}
+use Rattle.philox_fills.proofs.typed.fill_open01_f32_ahead.Given as goal
+
+abbrev pub invariant-loop-at : goal.invariant-loop-at
+invariant-loop-at l = (length l.buf ≡ 128) × Filling engine open01_f32s l.initial.rng l.initial.out l.out l.at l.draws l.rng
+
+abbrev pub decreases-loop-at : goal.decreases-loop-at
+decreases-loop-at l = length l.initial.out - l.at

@@ -1,0 +1,14 @@
+use Prim.Native.Nat.{◌-◌}
+use Rattle.fills.proofs.Filling.{Filling}
+use Rattle.fills.specs.Buffer.{bytes_kind}
+use Rattle.fills.specs.Kinds.{kind_at}
+use Rattle.xoshiro.specs.x8.Calls.{engine}
+use lib.ListN.{length}
+use mathlib.Core.Path.{◌≡◌}
+use Rattle.xoshiro_fills.proofs.bytes.fill_ahead.Given as goal
+
+abbrev pub invariant-loop-at : goal.invariant-loop-at
+invariant-loop-at l = (length l.buf ≡ 128) × Filling engine (bytes_kind (kind_at l.kind).kind) l.initial.rng l.initial.out l.out l.at l.draws l.rng
+
+abbrev pub decreases-loop-at : goal.decreases-loop-at
+decreases-loop-at l = length l.initial.out - l.at
