@@ -33,16 +33,16 @@ use Rattle.fills.proofs.Rounding.{round_covers}
 use Rattle.fills.proofs.Sounds.{length-zip, u64s_sound, u32s_sound, row}
 
 -- ---- elements of lists made element by element
-get_d_map : {A B : Type 0} (f : A → B) (xs : List A) (i : ℕ) (d : A) (e : B) → i < length xs → get_or (map f xs) i e ≡ f (get_or xs i d)
-get_d_map f [] i d e h = absurd (not-suc-le-zero h)
-get_d_map f (x ∷ xs) zero d e h = refl
-get_d_map f (x ∷ xs) (suc i) d e h = get_d_map f xs i d e (le_of_suc-le-suc h)
+get_or-map : {A B : Type 0} (f : A → B) (xs : List A) (i : ℕ) (d : A) (e : B) → i < length xs → get_or (map f xs) i e ≡ f (get_or xs i d)
+get_or-map f [] i d e h = absurd (not-suc-le-zero h)
+get_or-map f (x ∷ xs) zero d e h = refl
+get_or-map f (x ∷ xs) (suc i) d e h = get_or-map f xs i d e (le_of_suc-le-suc h)
 
-get_d_zip : {A B C : Type 0} (f : A → B → C) (xs : List A) (ys : List B) (i : ℕ) (a : A) (b : B) (c : C) → i < length xs → i < length ys → get_or (zip_with f xs ys) i c ≡ f (get_or xs i a) (get_or ys i b)
-get_d_zip f [] ys i a b c h k = absurd (not-suc-le-zero h)
-get_d_zip f (x ∷ xs) [] i a b c h k = absurd (not-suc-le-zero k)
-get_d_zip f (x ∷ xs) (y ∷ ys) zero a b c h k = refl
-get_d_zip f (x ∷ xs) (y ∷ ys) (suc i) a b c h k = get_d_zip f xs ys i a b c (le_of_suc-le-suc h) (le_of_suc-le-suc k)
+get_or-zip : {A B C : Type 0} (f : A → B → C) (xs : List A) (ys : List B) (i : ℕ) (a : A) (b : B) (c : C) → i < length xs → i < length ys → get_or (zip_with f xs ys) i c ≡ f (get_or xs i a) (get_or ys i b)
+get_or-zip f [] ys i a b c h k = absurd (not-suc-le-zero h)
+get_or-zip f (x ∷ xs) [] i a b c h k = absurd (not-suc-le-zero k)
+get_or-zip f (x ∷ xs) (y ∷ ys) zero a b c h k = refl
+get_or-zip f (x ∷ xs) (y ∷ ys) (suc i) a b c h k = get_or-zip f xs ys i a b c (le_of_suc-le-suc h) (le_of_suc-le-suc k)
 
 -- place r of two halves of eight
 module _ {A : Type 0} (xs ys : List A) (h : length xs ≡ 8) (r : ℕ) (d : A) where
@@ -72,10 +72,10 @@ row_1 words h k = ap (λ (w : List ℕ). get_or w (k % 8) 0) (one-draw words (k 
 
 module _ (w : List ℕ) (h : length w ≡ 8) (i : ℕ) (l : i < 8) where
   low_at : get_or (lows w) i 0 ≡ get_or w i 0 % 2 ^ 32
-  low_at = get_d_map (λ x. x % 2 ^ 32) w i 0 0 (omega (arith, h))
+  low_at = get_or-map (λ x. x % 2 ^ 32) w i 0 0 (omega (arith, h))
 
   high_at : get_or (highs w) i 0 ≡ get_or w i 0 / 2 ^ 32
-  high_at = get_d_map (λ x. x / 2 ^ 32) w i 0 0 (omega (arith, h))
+  high_at = get_or-map (λ x. x / 2 ^ 32) w i 0 0 (omega (arith, h))
 
 length-lows : (w : List ℕ) → length w ≡ 8 → length (lows w) ≡ 8
 length-lows w h = length-map w (λ x. x % 2 ^ 32) ∙ h
@@ -104,7 +104,7 @@ floats_row : {A : Type 0} (f : Format) (v : A → Float) (K : Kind A) → Sound 
 floats_row f v K S is words h k =
     let W : ℕ → List ℕ = λ m. words (K.draws * (k / K.places) + m) in
     let long = S.full W (λ m. h (K.draws * (k / K.places) + m)) in
-    get_d_map v (K.group W) (k % K.places) K.blank numbers.zero (subst (λ (n : ℕ). k % K.places < n) (sym long) (mod-lt k S.some))
+    get_or-map v (K.group W) (k % K.places) K.blank numbers.zero (subst (λ (n : ℕ). k % K.places < n) (sym long) (mod-lt k S.some))
     ∙ ap v (is words h k)
 
 pub row_3 : Row3
@@ -139,8 +139,8 @@ module _ (f : Format) (a b : List ℕ) (ha : length a ≡ 8) (hb : length b ≡ 
 
   half_at : (half : Float → Float → Float) (i : ℕ) → i < 8 → get_or (zip_with half u1 u2) i d ≡ half (one_minus_unit f (get_or a i 0)) (unit f (get_or b i 0))
   half_at half i l =
-      get_d_zip half u1 u2 i d d d (omega (arith, long1)) (omega (arith, long2))
-      ∙ ap₂ half (get_d_map (one_minus_unit f) a i 0 d (omega (arith, ha))) (get_d_map (unit f) b i 0 d (omega (arith, hb)))
+      get_or-zip half u1 u2 i d d d (omega (arith, long1)) (omega (arith, long2))
+      ∙ ap₂ half (get_or-map (one_minus_unit f) a i 0 d (omega (arith, ha))) (get_or-map (unit f) b i 0 d (omega (arith, hb)))
 
   normals_at : (r < 8 → get_or (normals_of f a b) r d ≡ cos_half f (one_minus_unit f (get_or a (r % 8) 0)) (unit f (get_or b (r % 8) 0)))
       × (8 ≤ r → r < 16 → get_or (normals_of f a b) r d ≡ sin_half f (one_minus_unit f (get_or a (r % 8) 0)) (unit f (get_or b (r % 8) 0)))

@@ -1,5 +1,5 @@
 -- A part as it is written: the bytes of its values, or their lines. Assumes nothing.
-use Rattle.std.proofs.Common.{◌≡◌, ℕ, zero, suc, ◌+◌, ◌-◌, ◌*◌, ◌/◌, ◌%◌, ◌<◌, ◌≤◌, Bool, true, false, cond, ◌&&◌, leb, List, [], ◌∷◌, ◌++◌, length, take, drop, sym, refl, ap, ◌∙◌, subst, append_assoc, mul-le-mul_right, mul_comm, zero-add, zero-mul, le_of_mul-le-mul_right, mul-div_cancel, arith, length-append, take-append-drop, length-take-le, take_at, eq-eqb, ne_eqb}
+use Rattle.std.proofs.Common.{◌≡◌, ℕ, zero, suc, ◌-◌, ◌*◌, ◌/◌, ◌%◌, ◌<◌, ◌≤◌, Bool, true, false, cond, ◌&&◌, leb, List, [], ◌∷◌, ◌++◌, length, take, drop, sym, refl, ap, ◌∙◌, subst, append_assoc, mul-le-mul_right, mul_comm, zero-add, zero-mul, le_of_mul-le-mul_right, mul-div_cancel, arith, length-append, take-append-drop, length-take-le, take_at, eq-eqb, ne_eqb}
 use native.Mathlib.Nat.{zero-div}
 use native.Mathlib.Nat.{mul-mod_left}
 use lib.Seq.{length_front, drop-append-le}
