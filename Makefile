@@ -51,7 +51,7 @@ target/staticlib/lib%.a: $(PROVED) tools/build
 
 ORDER = xoshiro 42 0 0 normal_f64 20
 
-# target/deliver is the program for the level of this machine. It has no exit status: the closing line on standard error says that all was
+# target/deliver is the program for the level of this machine. Its exit status is 0 whatever became of an order: the closing line on standard error says that all was
 # delivered, and without it this fails. What the prover says is kept in target/deliver.log, so that nothing but the values goes to standard
 # output.
 run:
