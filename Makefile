@@ -51,9 +51,9 @@ target/staticlib/lib%.a: $(PROVED) tools/build
 
 ORDER = xoshiro 42 0 0 normal_f64 20
 
-# target/deliver is the program for the level of this machine. It has no exit status: the closing line on standard error says that all was
-# delivered, and without it this fails. What the prover says is kept in target/deliver.log, so that nothing but the values goes to standard
-# output.
+# target/deliver is the program for the level of this machine. Its exit status is 0 whatever became of an order: the closing line on
+# standard error says that all was delivered, and without it this fails. What the prover says is kept in target/deliver.log, so that nothing
+# but the values goes to standard output.
 run:
 	@mkdir -p target
 	@$(MAKE) -q $(COMPILED)/deliver.made || echo 'proving deliver and all that it stands on: some minutes, the first time' >&2
