@@ -85,7 +85,7 @@ pub extern "C" fn oracle_philox_next_u64x8(
     words: &mut [u64; 8],
 )
     ensures { record {
-      words = words.exit.now;
+      words = words.new;
       label = labelled from.new upper.new;
       rng = counted
           key.new stream.new counter.new waiting.new pending.new first.new;

@@ -18,8 +18,8 @@ use xoshiro_fills::{bytes, typed};
 // The two jumps answer their steps, and leave in `walked` the state that these led to.
 #[unsafe(no_mangle)]
 pub extern "C" fn oracle_xoshiro_jump(s: &mut [u64; 4], walked: &mut [u64; 4]) -> u64
-    ensures { record { rng = record { s = s.exit.now }; steps = result; walked = record { s = walked.new } } ≡
-        jumped_by jump_poly (record { s = s.entry.now }) }
+    ensures { record { rng = record { s = s.new }; steps = result; walked = record { s = walked.new } } ≡
+        jumped_by jump_poly (record { s = s.old }) }
 {
     let now = *s;
     let g = Xoshiro256pp { s: now };
@@ -35,8 +35,8 @@ pub extern "C" fn oracle_xoshiro_jump(s: &mut [u64; 4], walked: &mut [u64; 4]) -
 
 #[unsafe(no_mangle)]
 pub extern "C" fn oracle_xoshiro_long_jump(s: &mut [u64; 4], walked: &mut [u64; 4]) -> u64
-    ensures { record { rng = record { s = s.exit.now }; steps = result; walked = record { s = walked.new } } ≡
-        jumped_by long_jump_poly (record { s = s.entry.now }) }
+    ensures { record { rng = record { s = s.new }; steps = result; walked = record { s = walked.new } } ≡
+        jumped_by long_jump_poly (record { s = s.old }) }
 {
     let now = *s;
     let g = Xoshiro256pp { s: now };
@@ -93,7 +93,7 @@ pub extern "C" fn oracle_xoshiro_jump_blocks(s: &mut [[u64; 8]; 4], n: u64) -> u
 
 #[unsafe(no_mangle)]
 pub extern "C" fn oracle_xoshiro_next_u64x8(s: &mut [[u64; 8]; 4], words: &mut [u64; 8])
-    ensures { record { words = words.exit.now; rng = of_rows s.new } ≡ drawn (of_rows s.old) }
+    ensures { record { words = words.new; rng = of_rows s.new } ≡ drawn (of_rows s.old) }
 {
     let s0 = s[0];
     let s1 = s[1];
