@@ -5,9 +5,11 @@ pub mod Every
 pub mod Quad
 pub mod Xor
 pub mod Zip
+pub mod Arrays
 pub mod Stored
 pub mod Bytes
 pub mod Put
 pub mod Engine
 pub mod Refused
 pub mod Lists
+pub mod Maps

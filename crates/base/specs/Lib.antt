@@ -10,4 +10,5 @@ pub mod Bytes
 pub mod Put
 pub mod Engine
 pub mod Refused
+pub mod Refusal
 pub mod Lists

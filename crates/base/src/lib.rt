@@ -1,2 +1,4 @@
-// No code: the definitions and laws that the other crates share (specs/ and proofs/).
+// What the other crates share: the refusals of a call, and definitions and laws (specs/ and proofs/).
 #![tactic(auto)]
+
+pub mod refusal;

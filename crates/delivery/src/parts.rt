@@ -7,7 +7,7 @@ ghost use Rattle.text.specs.lines.Lines.{Counts};
 ghost use Rattle.delivery.specs.parts.Delivery.{width_of, places_of, begun, text_room, closing_of, FilledPart, NextPart};
 
 use crate::source;
-use crate::source::Source;
+use crate::source::{Source, SourceFill};
 use fills::kinds;
 use order::Order;
 use text::lines;
@@ -52,10 +52,7 @@ fn places(kind: u64, left: u64, len: usize) -> usize
 {
     if kinds::is_kind(kind) {
         let room = 16 * (len / (16 * kinds::width(kind)));
-        if left < room as u64 {
-            return left as usize;
-        }
-        return room;
+        return left.min(room as u64) as usize;
     }
     0
 }
@@ -70,7 +67,13 @@ fn fill_part(d: Delivery, out: &mut [u8]) -> Part
     let from = d.source;
     let n = places(kind, left, out.len());
     let bytes = n * kinds::width(kind);
-    let f = source::fill_bytes(from, kind, &mut out[..bytes]);
+    // A refused fill makes no draws and leaves the source.
+    let draws = 0;
+    let none = SourceFill {
+        draws,
+        source: from,
+    };
+    let f = source::fill_bytes(from, kind, &mut out[..bytes]).unwrap_or(none);
     let after = f.source;
     let rest = Delivery {
         source: after,
@@ -88,11 +91,7 @@ fn fill_part(d: Delivery, out: &mut [u8]) -> Part
 fn text_room(kind: u64, values: usize, out: usize) -> usize
     ensures { (result ≡ text_room kind values out) × (result ≤ values) }
 {
-    let room = out / 25 * kinds::width(kind);
-    if values < room {
-        return values;
-    }
-    room
+    values.min(out / 25 * kinds::width(kind))
 }
 
 // The next part of a delivery as it is to be written, at the start of `out`: the bytes of its values, which are made there; or their

@@ -1,80 +1,34 @@
-// Groups of unit f64 elements, made of the words of draws and stored in a slice, and their bytes: kind 4. The bytes of a group of kind 8
-// are made here too.
-ghost use Rattle.std.specs.Prelude.{map, ◌≡◌, ◌+◌, ◌-◌, min, length};
-ghost use Rattle.base.specs.Stored.{stored};
+// Kind 4, the units of kind 1, and its bytes, which are made as those of kind 8 are.
+ghost use Rattle.std.specs.Prelude.{map, ◌≡◌, refl};
 ghost use Rattle.std.specs.Float.{binary64};
 ghost use Rattle.std.specs.Float.Ieee.{to_bits};
-ghost use Rattle.fills.specs.Buffer.{bytes_kind, either_f64s, groups_ahead, stored_groups};
+ghost use lib.Dec.{lit<};
+ghost use Rattle.fills.proofs.Bytes.{bytes_sound};
+ghost use Rattle.fills.proofs.Sounds.{f64s_sound, either_f64s_sound};
+ghost use Rattle.fills.specs.Buffer.{bytes_kind, either_f64s};
 ghost use Rattle.fills.specs.Kinds.{f64s};
 ghost use Rattle.floats.specs.units.Unit.{unit, unit_of};
 
-use crate::groups;
+use crate::group;
+use crate::group::{FromOne, Group, OfKind};
 use floats::{patterns, units};
-use slices::bytes;
-
-// Stores the first `n` of `v` in the places from `at` on.
-fn put_f64_n(out: &mut [f64], at: usize, v: [f64; 8], n: usize)
-    requires { n ≡ min (length out.old - at) 8 }
-    ensures { out.new ≡ stored out.old at v }
-{
-    for i in 0..n {
-        out[at + i] = v[i];
-    }
-}
-
-// Stores `v` in the places from `at` on, as far as `out` has them.
-pub fn put_f64(out: &mut [f64], at: usize, v: [f64; 8])
-    ensures { out.new ≡ stored out.old at v }
-{
-    let n = words::room(out.len(), at, 8);
-    // eight stores that the compiler knows to be eight are the fast ones
-    if n == 8 {
-        put_f64_n(out, at, v, 8);
-    } else {
-        put_f64_n(out, at, v, n);
-    }
-}
+use slices::{bytes, put};
 
 // The units of eight words.
 pub fn units_f64(w: [u64; 8]) -> [f64; 8]
     ensures { result ≡ map (unit binary64) w }
 {
-    let mut out = [0.0f64; 8];
-    for i in 0..8 {
-        out[i] = units::u64_to_unit_f64(w[i]);
-    }
-    out
-}
-
-// One group from the words of its draw in the places from `at` on, as far as `out` has them.
-pub fn put_group(out: &mut [f64], at: usize, w: [u64; 8])
-    ensures { out.new ≡ stored out.old at (f64s.group (λ _. w)) }
-{
-    put_f64(out, at, units_f64(w));
-}
-
-// The groups of the buffer `b` in the places from `at` on, as far as both go.
-pub fn map_f64(out: &mut [f64], at: usize, b: &[u64; 128])
-    ensures { out.new ≡ stored_groups f64s b.now out.old at (groups_ahead f64s (length out.old - at)) }
-{
-    let q = groups::groups_of(out.len(), at, 8, 16);
-    for j in 0..q {
-        put_group(out, at + j * 8, groups::draw_of(b, j));
-    }
+    w.map(units::u64_to_unit_f64)
 }
 
 // The patterns of eight floats.
 pub fn bits_f64(v: [f64; 8]) -> [u64; 8]
     ensures { result ≡ map (to_bits binary64) v }
 {
-    let mut out = [0u64; 8];
-    for i in 0..8 {
-        out[i] = patterns::to_bits_f64(v[i]);
-    }
-    out
+    v.map(patterns::to_bits_f64)
 }
 
-// The units of eight words, or those that are never 0.
+// The units of eight words, or those that are never 0. (By index: with `from_fn` byte fills of kinds 4 and 8 took up to a quarter longer.)
 fn either_f64(w: [u64; 8], nonzero: bool) -> [f64; 8]
     ensures { result ≡ map (unit_of binary64 nonzero) w }
 {
@@ -85,20 +39,73 @@ fn either_f64(w: [u64; 8], nonzero: bool) -> [f64; 8]
     out
 }
 
-// The bytes of one group of kind 4, or of kind 8, from the words of its draw in the places from `at` on, as far as `out` has them. (One
-// function for both, so that a byte fill has one loop for both: of more loops in one function the compiler makes poorer ones.)
-pub fn put_bytes(out: &mut [u8], at: usize, w: [u64; 8], nonzero: bool)
-    ensures { out.new ≡ stored out.old at ((bytes_kind (either_f64s nonzero)).group (λ _. w)) }
-{
-    bytes::put_words(out, at, bits_f64(either_f64(w, nonzero)));
+// Kind 4.
+#[derive(Clone, Copy)]
+pub struct F64s;
+
+impl OfKind for F64s {
+    type Element = f64;
+
+    ghost kind = { λ _. f64s };
+
+    ghost sound = { λ _. f64s_sound };
+
+    fn places(self) -> usize {
+        8
+    }
+
+    fn draws(self) -> usize {
+        1
+    }
 }
 
-// The bytes of the groups of the buffer `b` in the places from `at` on, as far as both go.
-pub fn map_bytes(out: &mut [u8], at: usize, b: &[u64; 128])
-    ensures { out.new ≡ stored_groups (bytes_kind f64s) b.now out.old at (groups_ahead (bytes_kind f64s) (length out.old - at)) }
-{
-    let q = groups::groups_of(out.len(), at, 64, 16);
-    for j in 0..q {
-        put_bytes(out, at + j * 64, groups::draw_of(b, j), false);
+impl FromOne for F64s {
+    ghost one_draw = { λ _. refl };
+
+    fn put_group(self, out: &mut [f64], at: usize, w: [u64; 8]) {
+        put::put(out, at, units_f64(w));
+    }
+}
+
+impl Group for F64s {
+    fn map_groups(self, out: &mut [f64], at: usize, b: &[u64; 128]) {
+        group::map_each(self, out, at, b)
+    }
+}
+
+// The bytes of kind 4, or of kind 8. (One for both, so that a byte fill has one loop for both: of more loops in one function the compiler
+// makes poorer ones.)
+#[derive(Clone, Copy)]
+pub struct F64Bytes {
+    pub nonzero: bool,
+}
+
+impl OfKind for F64Bytes {
+    type Element = u8;
+
+    ghost kind = { λ k. bytes_kind (either_f64s k.nonzero) };
+
+    ghost sound = { λ k. bytes_sound (either_f64s k.nonzero) (either_f64s_sound k.nonzero) (lit< tt) };
+
+    fn places(self) -> usize {
+        64
+    }
+
+    fn draws(self) -> usize {
+        1
+    }
+}
+
+impl FromOne for F64Bytes {
+    ghost one_draw = { λ _. refl };
+
+    fn put_group(self, out: &mut [u8], at: usize, w: [u64; 8]) {
+        bytes::put_words(out, at, bits_f64(either_f64(w, self.nonzero)));
+    }
+}
+
+impl Group for F64Bytes {
+    fn map_groups(self, out: &mut [u8], at: usize, b: &[u64; 128]) {
+        group::map_each(self, out, at, b)
     }
 }

@@ -1,8 +1,11 @@
-// What the fills of every kind share, whatever the engine: how many groups come next, a buffer cut into draws, the halves of words.
-ghost use Rattle.std.specs.Prelude.{◌≡◌, ◌-◌, ◌%◌, min};
+// What the fills of every kind share, whatever the engine: how many groups come next, a buffer cut into draws, the halves of words and of groups.
+ghost use Rattle.std.specs.Prelude.{◌++◌, ◌≡◌, ◌-◌, ◌%◌, min};
 ghost use Rattle.base.specs.Engine.{draw_of};
+ghost use Rattle.base.specs.Stored.{stored};
 ghost use Rattle.fills.specs.Fill.{round_up};
 ghost use Rattle.fills.specs.Kinds.{lows as lowsOf, highs as highsOf};
+
+use slices::put;
 
 // The groups of `places` places that `len` places begin.
 pub fn groups_in(len: usize, places: usize) -> usize
@@ -21,15 +24,7 @@ pub fn groups_of(len: usize, at: usize, places: usize, most: usize) -> usize
     if places == 0 {
         return 0;
     }
-    let n = len - at;
-    let q = n / places;
-    if most <= q {
-        return most;
-    }
-    if n % places == 0 {
-        return q;
-    }
-    q + 1
+    (len - at).div_ceil(places).min(most)
 }
 
 // The words of draw `i`, modulo 16, of a buffer of 16 draws.
@@ -37,31 +32,40 @@ pub fn draw_of(b: &[u64; 128], i: usize) -> [u64; 8]
     ensures { result ≡ draw_of b.now (i % 16) }
 {
     let first = i % 16 * 8;
-    let mut w = [0u64; 8];
-    for k in 0..8 {
-        w[k] = b[first + k];
-    }
-    w
+    std::array::from_fn(|k| b[first + k])
 }
 
 // The low halves of eight words.
 pub fn lows(w: [u64; 8]) -> [u32; 8]
     ensures { result ≡ lowsOf w }
 {
-    let mut out = [0u32; 8];
-    for i in 0..8 {
-        out[i] = words::low(w[i]);
-    }
-    out
+    w.map(words::low)
 }
 
 // The high halves of eight words.
 pub fn highs(w: [u64; 8]) -> [u32; 8]
     ensures { result ≡ highsOf w }
 {
-    let mut out = [0u32; 8];
-    for i in 0..8 {
-        out[i] = words::high(w[i]);
+    w.map(words::high)
+}
+
+// Stores two halves of a group, one after the other, in the places from `at` on, as far as `out` has them.
+pub fn put_halves<T: Copy>(out: &mut [T], at: usize, lo: [T; 8], hi: [T; 8])
+    ensures { out.new ≡ stored out.old at (lo ++ hi) }
+{
+    if out.len() <= at {
+        return;
     }
-    out
+    let room = out.len() - at;
+    // where both have room, the compiler leaves out the test for each
+    if 16 <= room {
+        put::put(out, at, lo);
+        put::put(out, at + 8, hi);
+        return;
+    }
+    put::put(out, at, lo);
+    if room <= 8 {
+        return;
+    }
+    put::put(out, at + 8, hi);
 }

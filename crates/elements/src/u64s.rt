@@ -1,25 +1,79 @@
-// The bytes of groups of u64 elements: kind 1. (The elements are the words themselves: slices::u64s stores them.)
-ghost use Rattle.std.specs.Prelude.{◌≡◌, ◌-◌, length};
-ghost use Rattle.base.specs.Stored.{stored};
-ghost use Rattle.fills.specs.Buffer.{bytes_kind, groups_ahead, stored_groups};
+// Kind 1, the words themselves, and its bytes.
+ghost use Rattle.std.specs.Prelude.{refl};
+ghost use lib.Dec.{lit<};
+ghost use Rattle.fills.proofs.Bytes.{bytes_sound};
+ghost use Rattle.fills.proofs.Sounds.{u64s_sound};
+ghost use Rattle.fills.specs.Buffer.{bytes_kind};
 ghost use Rattle.fills.specs.Kinds.{u64s};
 
-use crate::groups;
-use slices::bytes;
+use crate::group;
+use crate::group::{FromOne, Group, OfKind};
+use slices::{bytes, put};
 
-// The bytes of one group from the words of its draw in the places from `at` on, as far as `out` has them.
-pub fn put_bytes(out: &mut [u8], at: usize, w: [u64; 8])
-    ensures { out.new ≡ stored out.old at ((bytes_kind u64s).group (λ _. w)) }
-{
-    bytes::put_words(out, at, w);
+// Kind 1.
+#[derive(Clone, Copy)]
+pub struct U64s;
+
+impl OfKind for U64s {
+    type Element = u64;
+
+    ghost kind = { λ _. u64s };
+
+    ghost sound = { λ _. u64s_sound };
+
+    fn places(self) -> usize {
+        8
+    }
+
+    fn draws(self) -> usize {
+        1
+    }
 }
 
-// The bytes of the groups of the buffer `b` in the places from `at` on, as far as both go.
-pub fn map_bytes(out: &mut [u8], at: usize, b: &[u64; 128])
-    ensures { out.new ≡ stored_groups (bytes_kind u64s) b.now out.old at (groups_ahead (bytes_kind u64s) (length out.old - at)) }
-{
-    let q = groups::groups_of(out.len(), at, 64, 16);
-    for j in 0..q {
-        put_bytes(out, at + j * 64, groups::draw_of(b, j));
+impl FromOne for U64s {
+    ghost one_draw = { λ _. refl };
+
+    fn put_group(self, out: &mut [u64], at: usize, w: [u64; 8]) {
+        put::put(out, at, w);
+    }
+}
+
+impl Group for U64s {
+    fn map_groups(self, out: &mut [u64], at: usize, b: &[u64; 128]) {
+        group::map_each(self, out, at, b)
+    }
+}
+
+// Its bytes.
+#[derive(Clone, Copy)]
+pub struct U64Bytes;
+
+impl OfKind for U64Bytes {
+    type Element = u8;
+
+    ghost kind = { λ _. bytes_kind u64s };
+
+    ghost sound = { λ _. bytes_sound u64s u64s_sound (lit< tt) };
+
+    fn places(self) -> usize {
+        64
+    }
+
+    fn draws(self) -> usize {
+        1
+    }
+}
+
+impl FromOne for U64Bytes {
+    ghost one_draw = { λ _. refl };
+
+    fn put_group(self, out: &mut [u8], at: usize, w: [u64; 8]) {
+        bytes::put_words(out, at, w);
+    }
+}
+
+impl Group for U64Bytes {
+    fn map_groups(self, out: &mut [u8], at: usize, b: &[u64; 128]) {
+        group::map_each(self, out, at, b)
     }
 }

@@ -2,7 +2,7 @@
 -- groups. For any kind and engine. Assumes nothing.
 use mathlib.Core.Path.{◌≡◌, refl, sym, ap, ◌∙◌}
 use mathlib.Core.List.{List, ◌++◌}
-use Prim.Native.Nat.{ℕ, zero, suc, ◌+◌, ◌*◌, ◌/◌, ◌%◌, ◌<◌, ◌≤◌}
+use Prim.Native.Nat.{ℕ, zero, suc, ◌+◌, ◌*◌, ◌/◌, ◌%◌, ◌<◌, ◌≤◌, min}
 use native.Mathlib.Nat.{add-zero, mul-suc, suc-mul, zero-mul, mul-zero}
 use native.Mathlib.Numerals.{add-one}
 use native.Mathlib.Omega.{arith}
@@ -16,10 +16,10 @@ use Rattle.base.specs.Table.{table}
 use Rattle.base.proofs.Iterate.{iterate-then}
 use Rattle.base.proofs.Stored.{length-stored, stored-first}
 use Rattle.base.proofs.Table.{length-table, table_same}
-use Rattle.fills.specs.Fill.{Kind, element, Filled}
+use Rattle.fills.specs.Fill.{Kind, round_up, element, Filled}
 use Rattle.fills.specs.Kinds.{u64s}
-use Rattle.fills.specs.Buffer.{stored_groups}
-use Rattle.fills.proofs.Filling.{Filling, more, same_place}
+use Rattle.fills.specs.Buffer.{groups_ahead, stored_groups}
+use Rattle.fills.proofs.Filling.{Sound, Filling, more, same_place}
 
 -- a fill of kind 1 of the first n = m * 8 places of a buffer stores m draws in it
 pub drawn_filled : {G : Type 0} {E : Engine G} {rng rng' : G} {after : List ℕ} {draws : ℕ} (buf : List ℕ) (n m : ℕ)
@@ -115,3 +115,11 @@ module _ {A : Type 0} {K : Kind A} {b : List ℕ} {l : List A} {at q : ℕ} wher
 
   pub group-end : {out : List A} {j : ℕ} → Grouping K b l at q out j → q ≤ j → out ≡ stored_groups K b l at q
   group-end {out} {j} P h = let e : j ≡ q = omega arith in P.done ∙ ap (stored_groups K b l at) e
+
+-- ---- a kind whose groups take one draw: how many groups come next, and a group of the buffer's draw
+module _ {A : Type 0} (K : Kind A) (one : K.draws ≡ 1) where
+  pub ahead-one : (n : ℕ) {w q : ℕ} → w ≡ K.places → q ≡ min (round_up n w) 16 → q ≡ groups_ahead K n
+  ahead-one n ew eq = eq ∙ λ i. min (round_up n (ew i)) (16 / sym one i)
+
+  pub group-one : (b : List ℕ) {w : List ℕ} {j : ℕ} → Sound K → j < 16 → w ≡ draw_of b (j % 16) → K.group (λ _. w) ≡ K.group (λ m. draw_of b (K.draws * j + m))
+  group-one b {w} {j} S h ew = S.own _ _ (λ m l. ew ∙ ap (draw_of b) (omega (arith, one) ∙ ap (λ (d : ℕ). d * j + m) (sym one)))

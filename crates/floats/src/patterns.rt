@@ -49,17 +49,11 @@ pub fn from_bits_f64(b: u64) -> f64
     }
 }
 
-// The first if b, else the second: loops over lanes that call these compile to selects and not to branches.
-pub fn select_f32(b: bool, x: f32, y: f32) -> f32
+// The first if b, else the second: loops over lanes that call it compile to selects and not to branches.
+pub fn select<T: Copy>(b: bool, x: T, y: T) -> T
     ensures { result ≡ cond b x y }
 {
     if b { x } else { y }
-}
-
-pub fn select_f64(b: bool, u: f64, v: f64) -> f64
-    ensures { result ≡ cond b u v }
-{
-    if b { u } else { v }
 }
 
 pub fn is_positive_normal_f32(x: f32) -> bool

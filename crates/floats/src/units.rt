@@ -55,6 +55,6 @@ pub fn u64_to_open01_f64(x: u64) -> f64
 pub fn u64_to_f64(x: u64, nonzero: bool) -> f64
     ensures { result ≡ unit_of binary64 nonzero x }
 {
-    let less = patterns::select_f64(nonzero, 1.0 - INV_2_53, 1.0);
+    let less = patterns::select(nonzero, 1.0 - INV_2_53, 1.0);
     f64::from_bits((x >> 12) | 0x3FF0_0000_0000_0000) - less
 }

@@ -1,4 +1,3 @@
-pub mod Answers
 pub mod Host
 pub mod Draws
 pub mod Engines

@@ -10,6 +10,7 @@ use lib.Dec.{eqb}
 use lib.IntN.{ℤ, pos, nat_abs, pos-ne-negsuc}
 use lib.ListN.{length, get_or, length-append}
 use Rattle.base.specs.Bytes.{le_bytes}
+use Rattle.base.specs.Refusal.{Answer}
 use Rattle.base.specs.Refused.{unless}
 use Rattle.base.proofs.Iterate.{iterate_keeps}
 use Rattle.base.proofs.Refused.{unless-none}
@@ -23,7 +24,6 @@ use Rattle.philox.specs.declared.x8.Philox4x32X8.{Philox4x32X8}
 use Rattle.philox.proofs.x8.Theorems.{left-sought, left-at-most}
 use Rattle.saved.specs.fields.Fields.{fields}
 use Rattle.saved.specs.fields.Saved.{length_refusal}
-use Rattle.saved.specs.declared.philox4x32.Loaded.{Loaded}
 use Rattle.saved.specs.philox4x32.Form as philox-form
 use Rattle.saved.specs.philox4x32.Form.{counter_in, mark_in, number_in}
 use Rattle.saved.specs.philox4x32.Moves.{layout96, number_for, with_number}
@@ -134,11 +134,11 @@ module _ (form : List ℕ) where
     marked : cond (eqb (mark_in f) 1) 1 0 ≡ mark_in f
     marked = (mark_saved _ _ _ (load-accepted form z).form).mark
 
-    left-read : left_of (philox-form.loaded form).rng ≡ left_in form
+    left-read : left_of (philox-form.loaded form).value ≡ left_in form
     unfolding left_of
     left-read = ap left_of (load-accepted form z).holds ∙ ap (λ (m : ℕ). 2 * ((2 ^ 64 - counter_in f) / 8) + m) marked
 
-    label-read : label_of (philox-form.loaded form).rng ≡ record {
+    label-read : label_of (philox-form.loaded form).value ≡ record {
       first = cond (eqb (mark_in f) 1) (number_in f) (counter_in f);
       upper = eqb
           (mark_in f) 1;
@@ -146,7 +146,7 @@ module _ (form : List ℕ) where
     unfolding label_of
     label-read = ap label_of (load-accepted form z).holds
 
-    half_read : cond (label_of (philox-form.loaded form).rng).upper 1 0 ≡ mark_in f
+    half_read : cond (label_of (philox-form.loaded form).value).upper 1 0 ≡ mark_in f
     half_read = ap (λ (l : Label). cond l.upper 1 0) label-read ∙ marked
 
   -- a value that an accepted form has
@@ -294,14 +294,14 @@ accepted (suc r) v n e = absurd (pos-ne-negsuc n r e)
 pub sought-left : SoughtLeft
 sought-left n u64 form bytes form' c =
     let z = (accepted _ 0 0 c.answers).0 in
-    let g = sought (philox-form.loaded form).rng n in
+    let g = sought (philox-form.loaded form).value n in
     let saved = c.saves ∙ unless-none _ z (philox-form.form_of g) form in
     let read = ap philox-form.loaded saved ∙ restored g (sound_sought _ n u64 (sound_loaded form bytes z)) in
-    ap (λ (x : Loaded). answer_of x.refusal (left_of x.rng)) read ∙ ap pos (left-sought _ n)
+    ap (λ (x : Answer Philox4x32X8). answer_of x.refusal (left_of x.value)) read ∙ ap pos (left-sought _ n)
 
 pub most-left : MostLeft
 most-left form n e =
-    let g = (philox-form.loaded form).rng in
+    let g = (philox-form.loaded form).value in
     omega (arith, (accepted (philox-form.loaded form).refusal (left_of g) n (sym e)).1, left-at-most g)
 
 -- ---- the label that an accepted form tells
@@ -339,7 +339,7 @@ moved_back old form form' old₂ answer old₂' F e T =
 -- what a call leaves, by its refusal: the form of a sound generator, or the form that was there
 left-accepted : (r : ℕ) (g : Philox4x32X8) (form : List ℕ) {form' : List ℕ} → Sound g → (philox-form.loaded form).refusal ≡ 0
     → form' ≡ unless r (philox-form.form_of g) form → (philox-form.loaded form').refusal ≡ 0
-left-accepted zero g form s ok e = ap (λ (l : List ℕ). (philox-form.loaded l).refusal) e ∙ ap (λ (x : Loaded). x.refusal) (restored g s)
+left-accepted zero g form s ok e = ap (λ (l : List ℕ). (philox-form.loaded l).refusal) e ∙ ap (λ (x : Answer Philox4x32X8). x.refusal) (restored g s)
 left-accepted (suc r) g form s ok e = ap (λ (l : List ℕ). (philox-form.loaded l).refusal) e ∙ ok
 
 pub stays-accepted : StaysAccepted

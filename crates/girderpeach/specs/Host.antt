@@ -1,7 +1,9 @@
 -- What a host's calls promise, on any engine: the answer, and every lent buffer at the return, by equations (the scope document, "Saved forms and
 -- the host", "What the calls refuse").
-use Rattle.std.specs.Prelude.{List, ◌≡◌, ℕ, zero, suc, ℤ, pos, negsuc, length}
+use Rattle.std.specs.Prelude.{List, ◌≡◌, ℕ, zero, suc, ℤ, pos, negsuc, length, Ok, Err, Result}
 use Rattle.base.specs.Engine.{Engine, words_from}
+use Rattle.base.specs.Refusal.{number_of}
+use Rattle.base.specs.declared.refusal.Refusal.{Refusal}
 use Rattle.base.specs.Refused.{unless}
 use Rattle.base.specs.Iterate.{iterate}
 use Rattle.fills.specs.FillBytes.{refusal_of, bytes_written, bytes_draws}
@@ -10,6 +12,11 @@ use Rattle.fills.specs.FillBytes.{refusal_of, bytes_written, bytes_draws}
 abbrev pub answer_of : ℕ → ℕ → ℤ
 answer_of zero value = pos value
 answer_of (suc n) value = negsuc n
+
+-- the answer that a result is
+abbrev pub answered : Result ℤ Refusal → ℤ
+answered (Ok value) = value
+answered (Err e) = answer_of (number_of e) 0
 
 -- the first refusal of two tests, one after the other
 abbrev pub first_of : ℕ → ℕ → ℕ

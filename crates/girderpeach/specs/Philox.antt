@@ -17,7 +17,7 @@ forms =
       engine = engine;
       refusal = λ s. (loaded s).refusal;
       refusal_by = λ s r. first_of (parsed s).refusal (first_of r (loaded s).refusal);
-      read = λ s. (loaded s).rng;
+      read = λ s. (loaded s).value;
       form = form_of;
     }
 
@@ -31,7 +31,7 @@ New seed stream form answer form' = Called (length_refusal (size_of layout) form
 
 -- gp_philox_seek
 abbrev pub Sought : ℕ → List ℕ → ℤ → List ℕ → Type 0
-Sought block form answer form' = Called (loaded form).refusal 0 (form_of (sought (loaded form).rng block)) form form' answer
+Sought block form answer form' = Called (loaded form).refusal 0 (form_of (sought (loaded form).value block)) form form' answer
 
 -- gp_philox_skip
 abbrev pub Skipped : ℕ → List ℕ → ℤ → List ℕ → Type 0
@@ -39,13 +39,13 @@ Skipped = HostSkip forms
 
 -- gp_philox_draws_left
 abbrev pub draws_left : List ℕ → ℤ
-draws_left form = answer_of (loaded form).refusal (left_of (loaded form).rng)
+draws_left form = answer_of (loaded form).refusal (left_of (loaded form).value)
 
 -- gp_philox_label: 0 for the lower half of the next draw's group, 1 for the upper, and its first block. A refused call leaves the number as
 -- it was
 pub record Labelled (form : List ℕ) (first : ℕ) (answer : ℤ) (first' : ℕ) : Type 0 where
-  pub answers : answer ≡ answer_of (loaded form).refusal (cond (label_of (loaded form).rng).upper 1 0)
-  pub writes : first' ≡ unless (loaded form).refusal (label_of (loaded form).rng).first first
+  pub answers : answer ≡ answer_of (loaded form).refusal (cond (label_of (loaded form).value).upper 1 0)
+  pub writes : first' ≡ unless (loaded form).refusal (label_of (loaded form).value).first first
 
 -- gp_philox_from_96, gp_philox_to_96: the form that is read stays
 abbrev pub From96 : List ℕ → List ℕ → ℤ → List ℕ → Type 0

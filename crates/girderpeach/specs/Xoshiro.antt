@@ -15,7 +15,7 @@ forms =
       engine = engine;
       refusal = λ s. (loaded s).refusal;
       refusal_by = λ s r. first_of (loaded s).refusal r;
-      read = λ s. (loaded s).rng;
+      read = λ s. (loaded s).value;
       form = form_of;
     }
 
@@ -30,8 +30,8 @@ pub record New (seed block : ℕ) (form : List ℕ) (jumps : ℕ) (answer : ℤ)
 
 -- gp_xoshiro_jump_blocks
 pub record JumpedBlocks (n : ℕ) (form : List ℕ) (jumps : ℕ) (answer : ℤ) (form' : List ℕ) (jumps' : ℕ) : Type 0 where
-  pub called : Called (loaded form).refusal 0 (form_of (moved_blocks n (loaded form).rng).rng) form form' answer
-  pub counts : jumps' ≡ unless (loaded form).refusal (moved_blocks n (loaded form).rng).jumps jumps
+  pub called : Called (loaded form).refusal 0 (form_of (moved_blocks n (loaded form).value).rng) form form' answer
+  pub counts : jumps' ≡ unless (loaded form).refusal (moved_blocks n (loaded form).value).jumps jumps
 
 -- gp_xoshiro_skip
 abbrev pub Skipped : ℕ → List ℕ → ℤ → List ℕ → Type 0

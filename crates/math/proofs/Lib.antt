@@ -8,3 +8,5 @@ pub mod Quarter
 pub mod Whole
 pub mod Halves
 pub mod Theorems
+pub mod Answered
+pub mod Accepted

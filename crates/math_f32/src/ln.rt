@@ -1,5 +1,5 @@
-// The natural logarithm of eight f32 lanes (ln_f32 of the Rust's math.rs), of any values. Each operation is rounded once, in the Rust's order.
-ghost use Rattle.std.specs.Prelude.{◌≡◌, map};
+// The natural logarithm of one f32 lane (ln_f32 of the Rust's math.rs), of any values. Each operation is rounded once, in the Rust's order.
+ghost use Rattle.std.specs.Prelude.{◌≡◌};
 ghost use Rattle.std.specs.Float.{binary32};
 ghost use Rattle.math.specs.Ln.{exponent32, reduced32, ln};
 
@@ -36,7 +36,6 @@ fn reduced(m: f32, ef: f32) -> f32
     (f + y) + ef * 0.693_359_4
 }
 
-// One lane.
 pub fn lane(x: f32) -> f32
     ensures { result ≡ ln binary32 x }
 {
@@ -44,16 +43,5 @@ pub fn lane(x: f32) -> f32
     let m = patterns::from_bits_f32((bits & 0x007F_FFFF) | 0x3F80_0000);
     let big = m > SQRT_2;
     let ef = exponent(bits, big);
-    reduced(patterns::select_f32(big, m * 0.5, m), ef)
-}
-
-// Eight lanes.
-pub fn lanes(x: [f32; 8]) -> [f32; 8]
-    ensures { result ≡ map (ln binary32) x }
-{
-    let mut out = [0.0f32; 8];
-    for i in 0..8 {
-        out[i] = lane(x[i]);
-    }
-    out
+    reduced(patterns::select(big, m * 0.5, m), ef)
 }

@@ -1,6 +1,6 @@
-// The square root of eight f32 lanes (sqrt_f32 of the Rust's math.rs), of any values: a guess at 1/sqrt(v) from the pattern, Newton's
+// The square root of one f32 lane (sqrt_f32 of the Rust's math.rs), of any values: a guess at 1/sqrt(v) from the pattern, Newton's
 // steps, and a correction by the residue. Each operation is rounded once, in the Rust's order.
-ghost use Rattle.std.specs.Prelude.{◌≡◌, false, map, is_nan};
+ghost use Rattle.std.specs.Prelude.{◌≡◌, false, is_nan};
 ghost use Rattle.std.specs.Float.{binary32};
 ghost use Rattle.math.specs.Sqrt.{guess_of, newton_step, sqrt};
 
@@ -9,6 +9,7 @@ const LOW: f32 = -0.932_450_06;
 
 const HIGH: f32 = -0.233_112_53;
 
+// guess and newton have twins in math_f64: generic ones would take each literal and operation from a trait, which is no plainer.
 // A guess at 1/sqrt(v) by its pattern. What it is for a NaN does not matter: the root of a NaN is a NaN.
 fn guess(v: f32) -> f32
     ensures { is_nan v ≡ false → result ≡ guess_of binary32 v }
@@ -27,7 +28,6 @@ fn newton(v: f32, y: f32) -> f32
     y * (1.5 - 0.5 * v * y * y)
 }
 
-// One lane.
 pub fn lane(v: f32) -> f32
     ensures { result ≡ sqrt binary32 v }
 {
@@ -36,15 +36,4 @@ pub fn lane(v: f32) -> f32
     y = newton(v, y);
     let s = v * y;
     s + 0.5 * y * (v - s * s)
-}
-
-// Eight lanes.
-pub fn lanes(x: [f32; 8]) -> [f32; 8]
-    ensures { result ≡ map (sqrt binary32) x }
-{
-    let mut out = [0.0f32; 8];
-    for i in 0..8 {
-        out[i] = lane(x[i]);
-    }
-    out
 }

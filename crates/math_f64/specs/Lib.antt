@@ -1,5 +1,3 @@
 pub mod ln
 pub mod sincos_turns
-pub mod box_muller
 pub mod box_muller_x32
-pub mod calls

@@ -1,5 +1,6 @@
 // The Box-Muller transform of 32 pairs of f64 lanes, of any values, as math_f64::box_muller has it of eight. Short loops, each over all the
 // lanes with a part of the formulas, keep several lanes' chains of dependent operations under way at once.
+// A loop over three arrays or more goes by index: a zip of as many iterators is no plainer.
 ghost use Rattle.std.specs.Prelude.{◌≡◌, length};
 ghost use Rattle.std.specs.Float.{binary64};
 ghost use Rattle.base.specs.Table.{table};
@@ -12,6 +13,7 @@ ghost use Rattle.math_f64.specs.sincos_turns.Lanes.{sin_start, cos_start};
 ghost use Rattle.math_f64.specs.box_muller_x32.Stages.{at, ended, cos_last, sin_last};
 
 use crate::{ln, sincos_turns, sqrt};
+use math::cos_sin::CosSin;
 
 // A loop takes the arrays that it writes as slices: behind a reference the prover knows a slice's length, and not an array's.
 
@@ -40,12 +42,13 @@ fn ln_end(s: &[f64; 32], e: &[f64; 32], p: &mut [f64])
     }
 }
 
+// math_f32::box_muller_x64 has a twin of this: one loop of one line, which a generic form with a length makes no plainer.
 fn roots(v: &mut [f64])
     requires { length v.old ≡ 32 }
     ensures { v.new ≡ table 32 (λ i. sqrt binary64 (at v.old i)) }
 {
-    for i in 0..32 {
-        v[i] = sqrt::lane(v[i]);
+    for x in v {
+        *x = sqrt::lane(*x);
     }
 }
 
@@ -65,7 +68,7 @@ fn turns_start(t: &[f64], th: &mut [f64], s: &mut [f64], c: &mut [f64])
 }
 
 // One lane's cosine and sine, from the polynomials of its angle as far as they were begun.
-fn turn_end(t: f64, th: f64, s: f64, c: f64) -> sincos_turns::CosSinLane
+fn turn_end(t: f64, th: f64, s: f64, c: f64) -> CosSin<f64>
     ensures { result ≡ ended t th s c }
 {
     let sin = sincos_turns::sin_end(th, s);

@@ -1,134 +1,38 @@
 // The calls of math.rs on eight f64 lanes. They refuse arguments outside their domains; the formulas behind them take every value.
 ghost use Rattle.std.specs.Prelude.{◌≡◌};
 ghost use Rattle.std.specs.Float.{binary64};
-ghost use Rattle.base.specs.Every.{every};
-ghost use Rattle.floats.specs.patterns.Domains.{positive_normal, in_reach, has_root, is_u1, is_u2};
-ghost use Rattle.math_f64.specs.calls.Calls.{ln_call, sqrt_call, sincos_turns_call, box_muller_call};
+ghost use Rattle.base.specs.Refusal.{answer_of};
+ghost use Rattle.math.specs.Calls.{zeros, cos_sin_zeros, ln_call, sqrt_call, sincos_turns_call, box_muller_call};
 
-use crate::{box_muller, ln, sincos_turns, sqrt};
-use floats::patterns;
+use crate::formulas::F64;
+use base::refusal::Refusal;
+use math::calls;
+use math::cos_sin::CosSin;
 
-// What a call answers: 0 and the values, or the number of its refusal and zeros.
-#[derive(Clone, Copy)]
-pub struct Lanes {
-    pub refusal: u64,
-    pub value: [f64; 8],
-}
-
-#[derive(Clone, Copy)]
-pub struct CosSinLanes {
-    pub refusal: u64,
-    pub value: sincos_turns::CosSin,
-}
-
-fn all_positive_normal(x: [f64; 8]) -> bool
-    ensures { result ≡ every (positive_normal binary64) x }
+// Refuses if some argument isn't a positive normal.
+pub fn ln_f64(x: [f64; 8]) -> Result<[f64; 8], Refusal>
+    ensures { answer_of zeros result ≡ ln_call binary64 x }
 {
-    let mut ok = true;
-    for i in 0..8 {
-        ok = ok & patterns::is_positive_normal_f64(x[i]);
-    }
-    ok
+    calls::ln::<F64>(x)
 }
 
-// Refuses with 7 if some argument isn't a positive normal.
-pub fn ln_f64(x: [f64; 8]) -> Lanes
-    ensures { result ≡ ln_call x }
+// Refuses if some turn is a NaN or has magnitude 2^40 or more.
+pub fn sincos_turns_f64(t: [f64; 8]) -> Result<CosSin<[f64; 8]>, Refusal>
+    ensures { answer_of cos_sin_zeros result ≡ sincos_turns_call binary64 t }
 {
-    if all_positive_normal(x) {
-        let value = ln::lanes(x);
-        Lanes { refusal: 0, value }
-    } else {
-        let value = [0.0f64; 8];
-        Lanes { refusal: 7, value }
-    }
+    calls::sincos_turns::<F64>(t)
 }
 
-fn all_in_reach(t: [f64; 8]) -> bool
-    ensures { result ≡ every (in_reach binary64) t }
+// Refuses if some argument is neither a positive normal nor a zero of either sign.
+pub fn sqrt_f64(x: [f64; 8]) -> Result<[f64; 8], Refusal>
+    ensures { answer_of zeros result ≡ sqrt_call binary64 x }
 {
-    let mut ok = true;
-    for i in 0..8 {
-        ok = ok & ((-1_099_511_627_776.0 < t[i]) & (t[i] < 1_099_511_627_776.0));
-    }
-    ok
+    calls::sqrt::<F64>(x)
 }
 
-// Refuses with 8 if some turn is a NaN or has magnitude 2^40 or more.
-pub fn sincos_turns_f64(t: [f64; 8]) -> CosSinLanes
-    ensures { result ≡ sincos_turns_call t }
+// Refuses if some u1 isn't normal in (0, 1], or some u2 isn't in [0, 1); -0.0 counts as 0.
+pub fn box_muller_f64(u1: [f64; 8], u2: [f64; 8]) -> Result<CosSin<[f64; 8]>, Refusal>
+    ensures { answer_of cos_sin_zeros result ≡ box_muller_call binary64 u1 u2 }
 {
-    if all_in_reach(t) {
-        let value = sincos_turns::lanes(t);
-        CosSinLanes { refusal: 0, value }
-    } else {
-        let none = [0.0f64; 8];
-        let value = sincos_turns::CosSin {
-            cos: none,
-            sin: none,
-        };
-        CosSinLanes { refusal: 8, value }
-    }
-}
-
-fn all_have_root(x: [f64; 8]) -> bool
-    ensures { result ≡ every (has_root binary64) x }
-{
-    let mut ok = true;
-    for i in 0..8 {
-        let normal = patterns::is_positive_normal_f64(x[i]);
-        ok = ok & ((x[i] == 0.0) | normal);
-    }
-    ok
-}
-
-// Refuses with 9 if some argument is neither a positive normal nor a zero of either sign.
-pub fn sqrt_f64(x: [f64; 8]) -> Lanes
-    ensures { result ≡ sqrt_call x }
-{
-    if all_have_root(x) {
-        let value = sqrt::lanes(x);
-        Lanes { refusal: 0, value }
-    } else {
-        let value = [0.0f64; 8];
-        Lanes { refusal: 9, value }
-    }
-}
-
-fn all_u1(u: [f64; 8]) -> bool
-    ensures { result ≡ every (is_u1 binary64) u }
-{
-    let mut ok = true;
-    for i in 0..8 {
-        let normal = patterns::is_positive_normal_f64(u[i]);
-        ok = ok & (normal & (u[i] <= 1.0));
-    }
-    ok
-}
-
-fn all_u2(u: [f64; 8]) -> bool
-    ensures { result ≡ every is_u2 u }
-{
-    let mut ok = true;
-    for i in 0..8 {
-        ok = ok & ((0.0 <= u[i]) & (u[i] < 1.0));
-    }
-    ok
-}
-
-// Refuses with 10 if some u1 isn't normal in (0, 1], or some u2 isn't in [0, 1); -0.0 counts as 0.
-pub fn box_muller_f64(u1: [f64; 8], u2: [f64; 8]) -> CosSinLanes
-    ensures { result ≡ box_muller_call u1 u2 }
-{
-    if all_u1(u1) & all_u2(u2) {
-        let value = box_muller::lanes(u1, u2);
-        CosSinLanes { refusal: 0, value }
-    } else {
-        let none = [0.0f64; 8];
-        let value = sincos_turns::CosSin {
-            cos: none,
-            sin: none,
-        };
-        CosSinLanes { refusal: 10, value }
-    }
+    calls::box_muller::<F64>(u1, u2)
 }

@@ -4,6 +4,7 @@
 pub mod box_muller;
 pub mod box_muller_x32;
 pub mod calls;
+pub mod formulas;
 pub mod ln;
 pub mod sincos_turns;
 pub mod sqrt;

@@ -1,5 +1,5 @@
-// The natural logarithm of eight f64 lanes (ln_f64 of the Rust's math.rs), of any values. Each operation is rounded once, in the Rust's order.
-ghost use Rattle.std.specs.Prelude.{◌≡◌, map};
+// The natural logarithm of one f64 lane (ln_f64 of the Rust's math.rs), of any values. Each operation is rounded once, in the Rust's order.
+ghost use Rattle.std.specs.Prelude.{◌≡◌};
 ghost use Rattle.std.specs.Float.{binary64};
 ghost use Rattle.math.specs.Ln.{ln};
 ghost use Rattle.math_f64.specs.ln.Parts.{parts_of, series_start, series_end};
@@ -28,8 +28,8 @@ pub fn split(x: f64) -> Parts
     let field = patterns::from_bits_f64((bits >> 52) | 0x4330_0000_0000_0000)
         - (4_503_599_627_370_496.0 + 1023.0);
     let big = digits > SQRT_2;
-    let e = patterns::select_f64(big, field + 1.0, field);
-    let f = patterns::select_f64(big, digits * 0.5, digits) - 1.0;
+    let e = patterns::select(big, field + 1.0, field);
+    let f = patterns::select(big, digits * 0.5, digits) - 1.0;
     let s = f / (2.0 + f);
     Parts { s, e }
 }
@@ -61,21 +61,9 @@ pub fn series_end(s: f64, e: f64, y: f64) -> f64
     e * LN2_HI + (r + e * LN2_LO)
 }
 
-// One lane.
 pub fn lane(x: f64) -> f64
     ensures { result ≡ ln binary64 x }
 {
     let parts = split(x);
     series_end(parts.s, parts.e, series_start(parts.s))
-}
-
-// Eight lanes.
-pub fn lanes(x: [f64; 8]) -> [f64; 8]
-    ensures { result ≡ map (ln binary64) x }
-{
-    let mut out = [0.0f64; 8];
-    for i in 0..8 {
-        out[i] = lane(x[i]);
-    }
-    out
 }

@@ -1,29 +1,17 @@
-// The cosine and the sine of eight f64 angles in turns (sincos_turns_f64 of the Rust's math.rs), of any values. Each operation is
+// The cosine and the sine of an f64 angle in turns (sincos_turns_f64 of the Rust's math.rs), of any values. Each operation is
 // rounded once, in the Rust's order.
 ghost use Rattle.std.specs.Prelude.{◌≡◌, ◌%◌, ◌==◌};
 ghost use Rattle.std.specs.Float.{binary64};
 ghost use Rattle.math.specs.Turns.{angle as angleOf, sign_of};
-ghost use Rattle.math_f64.specs.sincos_turns.Lanes.{sin_start, sin_end, cos_start, cos_end, turned_of, lane_of, lanes_of};
+ghost use Rattle.math_f64.specs.sincos_turns.Lanes.{sin_start, sin_end, cos_start, cos_end, turned_of};
+ghost use Rattle.math.specs.Lanes.{lane_of};
 
 use floats::patterns;
+use math::cos_sin::CosSin;
 
 const MAGIC: f64 = 6_755_399_441_055_744.0; // 1.5 * 2^52
 
 const TAU: f64 = 6.28318530717958647692528676655900577;
-
-// One lane's cosine and sine.
-#[derive(Clone, Copy)]
-pub struct CosSinLane {
-    pub cos: f64,
-    pub sin: f64,
-}
-
-// Eight lanes' cosines and sines, or what is made from them, side by side.
-#[derive(Clone, Copy)]
-pub struct CosSin {
-    pub cos: [f64; 8],
-    pub sin: [f64; 8],
-}
 
 // The sine of an angle, a polynomial, begun and ended: two functions for loops over many lanes, of which each does a part.
 pub fn sin_start(th: f64) -> f64
@@ -70,6 +58,7 @@ pub fn cos_end(th: f64, y: f64) -> f64
     pc * z + 1.0
 }
 
+// sign has a twin in math_f32: a generic one would take the shift and the pattern from a trait, which is no plainer.
 // 1.0, or -1.0 if n is odd, by its pattern: a product with it turns a sign and changes nothing else.
 fn sign(n: u64) -> f64
     ensures { result ≡ sign_of (n % 2 == 1) }
@@ -86,37 +75,22 @@ pub fn angle(t: f64) -> f64
 }
 
 // A turn's cosine and sine from the sine and the cosine of the angle that is left.
-pub fn turned(t: f64, s: f64, c: f64) -> CosSinLane
+pub fn turned(t: f64, s: f64, c: f64) -> CosSin<f64>
     ensures { result ≡ turned_of t s c }
 {
     let w = 4.0 * t + MAGIC;
     let q = patterns::to_bits_f64(w) % 4;
     let swap = q % 2 == 1;
-    let so = patterns::select_f64(swap, c, s);
-    let co = patterns::select_f64(swap, s, c);
+    let so = patterns::select(swap, c, s);
+    let co = patterns::select(swap, s, c);
     let sin = so * sign(q / 2);
     let cos = co * sign((q + 1) / 2);
-    CosSinLane { cos, sin }
+    CosSin { cos, sin }
 }
 
-// One lane.
-pub fn lane(t: f64) -> CosSinLane
-    ensures { result ≡ lane_of t }
+pub fn lane(t: f64) -> CosSin<f64>
+    ensures { result ≡ lane_of binary64 t }
 {
     let th = angle(t);
     turned(t, sin_end(th, sin_start(th)), cos_end(th, cos_start(th)))
-}
-
-// Eight lanes.
-pub fn lanes(t: [f64; 8]) -> CosSin
-    ensures { result ≡ lanes_of t }
-{
-    let mut cos = [0.0f64; 8];
-    let mut sin = [0.0f64; 8];
-    for i in 0..8 {
-        let one = lane(t[i]);
-        cos[i] = one.cos;
-        sin[i] = one.sin;
-    }
-    CosSin { cos, sin }
 }

@@ -3,3 +3,4 @@
 
 pub mod normal_f32s;
 pub mod normal_f64s;
+mod several;

@@ -1,34 +1,44 @@
 // The float calls for a caller in C: the static library that tests/oracle links beside the Rust. Each answers the refusal's number,
-// and leaves in the lent arrays what the call's record holds.
+// and leaves in the lent arrays what the call answers.
 #![tactic(auto)]
 
 ghost use Rattle.std.specs.Prelude.{◌≡◌};
 ghost use Rattle.std.specs.Float.{binary32, binary64};
 ghost use Rattle.std.specs.Float.Ieee.{to_bits};
-ghost use Rattle.math_f32.specs.calls.Calls as f32s;
-ghost use Rattle.math_f64.specs.calls.Calls as f64s;
+ghost use Rattle.base.specs.Refusal.{answer_of};
+ghost use Rattle.math.specs.Calls.{ln_call, sqrt_call, sincos_turns_call, box_muller_call};
 ghost use Rattle.floats.specs.units.Unit.{unit, one_minus_unit, open01};
 
+use base::refusal::Refusal;
 use floats::{patterns, units};
+use math::cos_sin::CosSin;
+
+// What a call answers: 0 and its value, or the number of its refusal and `blank`.
+fn answered<V: Copy>(answer: Result<V, Refusal>, blank: V) -> (u64, V)
+    ensures { (result.0 ≡ (answer_of blank answer).refusal) × (result.1 ≡ (answer_of blank answer).value) }
+{
+    match answer {
+        Ok(value) => (0, value),
+        Err(refusal) => (refusal.number(), blank),
+    }
+}
 
 #[unsafe(no_mangle)]
 pub extern "C" fn oracle_ln_f32(x: &[f32; 8], out: &mut [f32; 8]) -> u64
-    ensures { (result ≡ (f32s.ln_call x.now).refusal) × (out.new ≡ (f32s.ln_call x.now).value) }
+    ensures { (result ≡ (ln_call binary32 x.now).refusal) × (out.new ≡ (ln_call binary32 x.now).value) }
 {
-    let answer = math_f32::calls::ln_f32(*x);
-    let value = answer.value;
+    let (number, value) = answered(math_f32::calls::ln_f32(*x), [0.0; 8]);
     *out = value;
-    answer.refusal
+    number
 }
 
 #[unsafe(no_mangle)]
 pub extern "C" fn oracle_sqrt_f32(x: &[f32; 8], out: &mut [f32; 8]) -> u64
-    ensures { (result ≡ (f32s.sqrt_call x.now).refusal) × (out.new ≡ (f32s.sqrt_call x.now).value) }
+    ensures { (result ≡ (sqrt_call binary32 x.now).refusal) × (out.new ≡ (sqrt_call binary32 x.now).value) }
 {
-    let answer = math_f32::calls::sqrt_f32(*x);
-    let value = answer.value;
+    let (number, value) = answered(math_f32::calls::sqrt_f32(*x), [0.0; 8]);
     *out = value;
-    answer.refusal
+    number
 }
 
 #[unsafe(no_mangle)]
@@ -37,15 +47,19 @@ pub extern "C" fn oracle_sincos_turns_f32(
     cos: &mut [f32; 8],
     sin: &mut [f32; 8],
 ) -> u64
-    ensures { (result ≡ (f32s.sincos_turns_call t.now).refusal) × (cos.new ≡ (f32s.sincos_turns_call t.now).value.cos) × (sin.new ≡ (f32s.sincos_turns_call t.now).value.sin) }
+    ensures { (result ≡ (sincos_turns_call binary32 t.now).refusal) × (cos.new ≡ (sincos_turns_call binary32 t.now).value.cos) × (sin.new ≡ (sincos_turns_call binary32 t.now).value.sin) }
 {
-    let answer = math_f32::calls::sincos_turns_f32(*t);
-    let value = answer.value;
+    let none = [0.0f32; 8];
+    let blank = CosSin {
+        cos: none,
+        sin: none,
+    };
+    let (number, value) = answered(math_f32::calls::sincos_turns_f32(*t), blank);
     let c = value.cos;
     let s = value.sin;
     *cos = c;
     *sin = s;
-    answer.refusal
+    number
 }
 
 #[unsafe(no_mangle)]
@@ -55,15 +69,19 @@ pub extern "C" fn oracle_box_muller_f32(
     cos: &mut [f32; 8],
     sin: &mut [f32; 8],
 ) -> u64
-    ensures { (result ≡ (f32s.box_muller_call u1.now u2.now).refusal) × (cos.new ≡ (f32s.box_muller_call u1.now u2.now).value.cos) × (sin.new ≡ (f32s.box_muller_call u1.now u2.now).value.sin) }
+    ensures { (result ≡ (box_muller_call binary32 u1.now u2.now).refusal) × (cos.new ≡ (box_muller_call binary32 u1.now u2.now).value.cos) × (sin.new ≡ (box_muller_call binary32 u1.now u2.now).value.sin) }
 {
-    let answer = math_f32::calls::box_muller_f32(*u1, *u2);
-    let value = answer.value;
+    let none = [0.0f32; 8];
+    let blank = CosSin {
+        cos: none,
+        sin: none,
+    };
+    let (number, value) = answered(math_f32::calls::box_muller_f32(*u1, *u2), blank);
     let c = value.cos;
     let s = value.sin;
     *cos = c;
     *sin = s;
-    answer.refusal
+    number
 }
 
 // The patterns of a unit float, of 1 less it, and of the unit that is never 0.
@@ -90,22 +108,20 @@ pub extern "C" fn oracle_open01_f32(x: u32) -> u32
 
 #[unsafe(no_mangle)]
 pub extern "C" fn oracle_ln_f64(x: &[f64; 8], out: &mut [f64; 8]) -> u64
-    ensures { (result ≡ (f64s.ln_call x.now).refusal) × (out.new ≡ (f64s.ln_call x.now).value) }
+    ensures { (result ≡ (ln_call binary64 x.now).refusal) × (out.new ≡ (ln_call binary64 x.now).value) }
 {
-    let answer = math_f64::calls::ln_f64(*x);
-    let value = answer.value;
+    let (number, value) = answered(math_f64::calls::ln_f64(*x), [0.0; 8]);
     *out = value;
-    answer.refusal
+    number
 }
 
 #[unsafe(no_mangle)]
 pub extern "C" fn oracle_sqrt_f64(x: &[f64; 8], out: &mut [f64; 8]) -> u64
-    ensures { (result ≡ (f64s.sqrt_call x.now).refusal) × (out.new ≡ (f64s.sqrt_call x.now).value) }
+    ensures { (result ≡ (sqrt_call binary64 x.now).refusal) × (out.new ≡ (sqrt_call binary64 x.now).value) }
 {
-    let answer = math_f64::calls::sqrt_f64(*x);
-    let value = answer.value;
+    let (number, value) = answered(math_f64::calls::sqrt_f64(*x), [0.0; 8]);
     *out = value;
-    answer.refusal
+    number
 }
 
 #[unsafe(no_mangle)]
@@ -114,15 +130,19 @@ pub extern "C" fn oracle_sincos_turns_f64(
     cos: &mut [f64; 8],
     sin: &mut [f64; 8],
 ) -> u64
-    ensures { (result ≡ (f64s.sincos_turns_call t.now).refusal) × (cos.new ≡ (f64s.sincos_turns_call t.now).value.cos) × (sin.new ≡ (f64s.sincos_turns_call t.now).value.sin) }
+    ensures { (result ≡ (sincos_turns_call binary64 t.now).refusal) × (cos.new ≡ (sincos_turns_call binary64 t.now).value.cos) × (sin.new ≡ (sincos_turns_call binary64 t.now).value.sin) }
 {
-    let answer = math_f64::calls::sincos_turns_f64(*t);
-    let value = answer.value;
+    let none = [0.0f64; 8];
+    let blank = CosSin {
+        cos: none,
+        sin: none,
+    };
+    let (number, value) = answered(math_f64::calls::sincos_turns_f64(*t), blank);
     let c = value.cos;
     let s = value.sin;
     *cos = c;
     *sin = s;
-    answer.refusal
+    number
 }
 
 #[unsafe(no_mangle)]
@@ -132,15 +152,19 @@ pub extern "C" fn oracle_box_muller_f64(
     cos: &mut [f64; 8],
     sin: &mut [f64; 8],
 ) -> u64
-    ensures { (result ≡ (f64s.box_muller_call u1.now u2.now).refusal) × (cos.new ≡ (f64s.box_muller_call u1.now u2.now).value.cos) × (sin.new ≡ (f64s.box_muller_call u1.now u2.now).value.sin) }
+    ensures { (result ≡ (box_muller_call binary64 u1.now u2.now).refusal) × (cos.new ≡ (box_muller_call binary64 u1.now u2.now).value.cos) × (sin.new ≡ (box_muller_call binary64 u1.now u2.now).value.sin) }
 {
-    let answer = math_f64::calls::box_muller_f64(*u1, *u2);
-    let value = answer.value;
+    let none = [0.0f64; 8];
+    let blank = CosSin {
+        cos: none,
+        sin: none,
+    };
+    let (number, value) = answered(math_f64::calls::box_muller_f64(*u1, *u2), blank);
     let c = value.cos;
     let s = value.sin;
     *cos = c;
     *sin = s;
-    answer.refusal
+    number
 }
 
 // The patterns of a unit float, of 1 less it, and of the unit that is never 0.

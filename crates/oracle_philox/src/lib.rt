@@ -9,8 +9,53 @@ ghost use Rattle.philox.specs.x8.Machine.{drawn, fresh, sought, grouped, left_of
 ghost use Rattle.philox_fills.specs.Labelled.{LabelledFill, LabelledBytes};
 ghost use Rattle.oracle_philox.specs.States.{counted, labelled, blocks_of};
 
-use philox::x8::Philox4x32X8;
+use philox::x8::{Blocks, Philox4x32X8};
 use philox_fills::{bytes, typed};
+
+// The generator of the fields that a caller lends. (The C interface lends each field by itself.)
+fn generator(
+    key: &[u32; 2],
+    stream: &u64,
+    counter: &u64,
+    waiting: &bool,
+    pending: &[u64; 8],
+    first: &u64,
+) -> Philox4x32X8
+    ensures { result ≡ counted key.now stream.now counter.now waiting.now pending.now
+        first.now }
+{
+    Philox4x32X8 {
+        key: *key,
+        stream: *stream,
+        counter: *counter,
+        waiting: *waiting,
+        pending: *pending,
+        first: *first,
+    }
+}
+
+// Leaves the fields of `rng` in them.
+fn leave(
+    rng: Philox4x32X8,
+    key: &mut [u32; 2],
+    stream: &mut u64,
+    counter: &mut u64,
+    waiting: &mut bool,
+    pending: &mut [u64; 8],
+    first: &mut u64,
+)
+    ensures { counted key.new stream.new counter.new waiting.new pending.new
+        first.new ≡ rng }
+{
+    Philox4x32X8 {
+        key: *key,
+        stream: *stream,
+        counter: *counter,
+        waiting: *waiting,
+        pending: *pending,
+        first: *first,
+    } = rng;
+}
 
 #[unsafe(no_mangle)]
 pub extern "C" fn oracle_philox_new(
@@ -26,15 +71,15 @@ pub extern "C" fn oracle_philox_new(
     ensures { counted key.new stream.new counter.new waiting.new pending.new
         first.new ≡ fresh seed id }
 {
-    let rng = Philox4x32X8::new(seed, id);
-    let k = rng.key;
-    let p = rng.pending;
-    *key = k;
-    *stream = rng.stream;
-    *counter = rng.counter;
-    *waiting = rng.waiting;
-    *pending = p;
-    *first = rng.first;
+    leave(
+        Philox4x32X8::new(seed, id),
+        key,
+        stream,
+        counter,
+        waiting,
+        pending,
+        first,
+    );
 }
 
 #[unsafe(no_mangle)]
@@ -51,25 +96,8 @@ pub extern "C" fn oracle_philox_seek(
         first.new ≡ sought (counted key.old stream.old counter.old waiting.old
         pending.old first.old) block }
 {
-    let k = *key;
-    let p = *pending;
-    let g = Philox4x32X8 {
-        key: k,
-        stream: *stream,
-        counter: *counter,
-        waiting: *waiting,
-        pending: p,
-        first: *first,
-    };
-    let rng = g.seek(block);
-    let k = rng.key;
-    let p = rng.pending;
-    *key = k;
-    *stream = rng.stream;
-    *counter = rng.counter;
-    *waiting = rng.waiting;
-    *pending = p;
-    *first = rng.first;
+    let g = generator(key, stream, counter, waiting, pending, first);
+    leave(g.seek(block), key, stream, counter, waiting, pending, first);
 }
 
 #[unsafe(no_mangle)]
@@ -93,30 +121,13 @@ pub extern "C" fn oracle_philox_next_u64x8(
         ≡ drawn (counted key.old stream.old counter.old waiting.old pending.old
         first.old) }
 {
-    let k = *key;
-    let p = *pending;
-    let g = Philox4x32X8 {
-        key: k,
-        stream: *stream,
-        counter: *counter,
-        waiting: *waiting,
-        pending: p,
-        first: *first,
-    };
+    let g = generator(key, stream, counter, waiting, pending, first);
     let d = g.next_u64x8();
     let w = d.words;
     *words = w;
     *from = d.label.first;
     *upper = d.label.upper;
-    let rng = d.rng;
-    let k = rng.key;
-    let p = rng.pending;
-    *key = k;
-    *stream = rng.stream;
-    *counter = rng.counter;
-    *waiting = rng.waiting;
-    *pending = p;
-    *first = rng.first;
+    leave(d.rng, key, stream, counter, waiting, pending, first);
 }
 
 // `words` has word k of block i at place i of row k.
@@ -135,32 +146,16 @@ pub extern "C" fn oracle_philox_blocks(
         (counted key.old stream.old counter.old waiting.old pending.old
         first.old) }
 {
-    let k = *key;
-    let p = *pending;
-    let g = Philox4x32X8 {
-        key: k,
-        stream: *stream,
-        counter: *counter,
-        waiting: *waiting,
-        pending: p,
-        first: *first,
-    };
-    let b = g.blocks();
-    let w0 = b.w0;
-    let w1 = b.w1;
-    let w2 = b.w2;
-    let w3 = b.w3;
-    let rows = [w0, w1, w2, w3];
-    *words = rows;
-    let rng = b.rng;
-    let k = rng.key;
-    let p = rng.pending;
-    *key = k;
-    *stream = rng.stream;
-    *counter = rng.counter;
-    *waiting = rng.waiting;
-    *pending = p;
-    *first = rng.first;
+    let g = generator(key, stream, counter, waiting, pending, first);
+    let Blocks {
+        w0,
+        w1,
+        w2,
+        w3,
+        rng,
+    } = g.blocks();
+    *words = [w0, w1, w2, w3];
+    leave(rng, key, stream, counter, waiting, pending, first);
 }
 
 #[unsafe(no_mangle)]
@@ -176,16 +171,7 @@ pub extern "C" fn oracle_philox_draws_left(
         ≡ left_of (counted key.now stream.now counter.now waiting.now pending.now
         first.now) }
 {
-    let k = *key;
-    let p = *pending;
-    let g = Philox4x32X8 {
-        key: k,
-        stream: *stream,
-        counter: *counter,
-        waiting: *waiting,
-        pending: p,
-        first: *first,
-    };
+    let g = generator(key, stream, counter, waiting, pending, first);
     g.draws_left()
 }
 
@@ -211,28 +197,11 @@ pub extern "C" fn oracle_philox_fill_u64(
               counter.new waiting.new pending.new first.new;
         }) }
 {
-    let k = *key;
-    let p = *pending;
-    let g = Philox4x32X8 {
-        key: k,
-        stream: *stream,
-        counter: *counter,
-        waiting: *waiting,
-        pending: p,
-        first: *first,
-    };
+    let g = generator(key, stream, counter, waiting, pending, first);
     let f = typed::fill_u64(g, out);
     *from = f.label.first;
     *upper = f.label.upper;
-    let rng = f.rng;
-    let k = rng.key;
-    let p = rng.pending;
-    *key = k;
-    *stream = rng.stream;
-    *counter = rng.counter;
-    *waiting = rng.waiting;
-    *pending = p;
-    *first = rng.first;
+    leave(f.rng, key, stream, counter, waiting, pending, first);
     f.draws
 }
 
@@ -257,28 +226,11 @@ pub extern "C" fn oracle_philox_fill_u32(
               counter.new waiting.new pending.new first.new;
         }) }
 {
-    let k = *key;
-    let p = *pending;
-    let g = Philox4x32X8 {
-        key: k,
-        stream: *stream,
-        counter: *counter,
-        waiting: *waiting,
-        pending: p,
-        first: *first,
-    };
+    let g = generator(key, stream, counter, waiting, pending, first);
     let f = typed::fill_u32(g, out);
     *from = f.label.first;
     *upper = f.label.upper;
-    let rng = f.rng;
-    let k = rng.key;
-    let p = rng.pending;
-    *key = k;
-    *stream = rng.stream;
-    *counter = rng.counter;
-    *waiting = rng.waiting;
-    *pending = p;
-    *first = rng.first;
+    leave(f.rng, key, stream, counter, waiting, pending, first);
     f.draws
 }
 
@@ -303,28 +255,11 @@ pub extern "C" fn oracle_philox_fill_f32(
               counter.new waiting.new pending.new first.new;
         }) }
 {
-    let k = *key;
-    let p = *pending;
-    let g = Philox4x32X8 {
-        key: k,
-        stream: *stream,
-        counter: *counter,
-        waiting: *waiting,
-        pending: p,
-        first: *first,
-    };
+    let g = generator(key, stream, counter, waiting, pending, first);
     let f = typed::fill_f32(g, out);
     *from = f.label.first;
     *upper = f.label.upper;
-    let rng = f.rng;
-    let k = rng.key;
-    let p = rng.pending;
-    *key = k;
-    *stream = rng.stream;
-    *counter = rng.counter;
-    *waiting = rng.waiting;
-    *pending = p;
-    *first = rng.first;
+    leave(f.rng, key, stream, counter, waiting, pending, first);
     f.draws
 }
 
@@ -349,28 +284,11 @@ pub extern "C" fn oracle_philox_fill_f64(
               counter.new waiting.new pending.new first.new;
         }) }
 {
-    let k = *key;
-    let p = *pending;
-    let g = Philox4x32X8 {
-        key: k,
-        stream: *stream,
-        counter: *counter,
-        waiting: *waiting,
-        pending: p,
-        first: *first,
-    };
+    let g = generator(key, stream, counter, waiting, pending, first);
     let f = typed::fill_f64(g, out);
     *from = f.label.first;
     *upper = f.label.upper;
-    let rng = f.rng;
-    let k = rng.key;
-    let p = rng.pending;
-    *key = k;
-    *stream = rng.stream;
-    *counter = rng.counter;
-    *waiting = rng.waiting;
-    *pending = p;
-    *first = rng.first;
+    leave(f.rng, key, stream, counter, waiting, pending, first);
     f.draws
 }
 
@@ -395,28 +313,11 @@ pub extern "C" fn oracle_philox_fill_normal_f32(
               counter.new waiting.new pending.new first.new;
         }) }
 {
-    let k = *key;
-    let p = *pending;
-    let g = Philox4x32X8 {
-        key: k,
-        stream: *stream,
-        counter: *counter,
-        waiting: *waiting,
-        pending: p,
-        first: *first,
-    };
+    let g = generator(key, stream, counter, waiting, pending, first);
     let f = typed::fill_normal_f32(g, out);
     *from = f.label.first;
     *upper = f.label.upper;
-    let rng = f.rng;
-    let k = rng.key;
-    let p = rng.pending;
-    *key = k;
-    *stream = rng.stream;
-    *counter = rng.counter;
-    *waiting = rng.waiting;
-    *pending = p;
-    *first = rng.first;
+    leave(f.rng, key, stream, counter, waiting, pending, first);
     f.draws
 }
 
@@ -441,28 +342,11 @@ pub extern "C" fn oracle_philox_fill_normal_f64(
               counter.new waiting.new pending.new first.new;
         }) }
 {
-    let k = *key;
-    let p = *pending;
-    let g = Philox4x32X8 {
-        key: k,
-        stream: *stream,
-        counter: *counter,
-        waiting: *waiting,
-        pending: p,
-        first: *first,
-    };
+    let g = generator(key, stream, counter, waiting, pending, first);
     let f = typed::fill_normal_f64(g, out);
     *from = f.label.first;
     *upper = f.label.upper;
-    let rng = f.rng;
-    let k = rng.key;
-    let p = rng.pending;
-    *key = k;
-    *stream = rng.stream;
-    *counter = rng.counter;
-    *waiting = rng.waiting;
-    *pending = p;
-    *first = rng.first;
+    leave(f.rng, key, stream, counter, waiting, pending, first);
     f.draws
 }
 
@@ -487,28 +371,11 @@ pub extern "C" fn oracle_philox_fill_open01_f32(
               counter.new waiting.new pending.new first.new;
         }) }
 {
-    let k = *key;
-    let p = *pending;
-    let g = Philox4x32X8 {
-        key: k,
-        stream: *stream,
-        counter: *counter,
-        waiting: *waiting,
-        pending: p,
-        first: *first,
-    };
+    let g = generator(key, stream, counter, waiting, pending, first);
     let f = typed::fill_open01_f32(g, out);
     *from = f.label.first;
     *upper = f.label.upper;
-    let rng = f.rng;
-    let k = rng.key;
-    let p = rng.pending;
-    *key = k;
-    *stream = rng.stream;
-    *counter = rng.counter;
-    *waiting = rng.waiting;
-    *pending = p;
-    *first = rng.first;
+    leave(f.rng, key, stream, counter, waiting, pending, first);
     f.draws
 }
 
@@ -533,28 +400,11 @@ pub extern "C" fn oracle_philox_fill_open01_f64(
               counter.new waiting.new pending.new first.new;
         }) }
 {
-    let k = *key;
-    let p = *pending;
-    let g = Philox4x32X8 {
-        key: k,
-        stream: *stream,
-        counter: *counter,
-        waiting: *waiting,
-        pending: p,
-        first: *first,
-    };
+    let g = generator(key, stream, counter, waiting, pending, first);
     let f = typed::fill_open01_f64(g, out);
     *from = f.label.first;
     *upper = f.label.upper;
-    let rng = f.rng;
-    let k = rng.key;
-    let p = rng.pending;
-    *key = k;
-    *stream = rng.stream;
-    *counter = rng.counter;
-    *waiting = rng.waiting;
-    *pending = p;
-    *first = rng.first;
+    leave(f.rng, key, stream, counter, waiting, pending, first);
     f.draws
 }
 
@@ -577,34 +427,28 @@ pub extern "C" fn oracle_philox_fill_bytes(
         pending.old first.old) out.old out.new
         (record {
           refusal = result;
-          draws = draws.new;
-          label = labelled from.new upper.new;
-          rng = counted
-              key.new stream.new counter.new waiting.new pending.new first.new;
+          value = record {
+            draws = draws.new;
+            label = labelled from.new upper.new;
+            rng = counted
+                key.new stream.new counter.new waiting.new pending.new first.new;
+          };
         }) }
 {
-    let k = *key;
-    let p = *pending;
-    let g = Philox4x32X8 {
-        key: k,
-        stream: *stream,
-        counter: *counter,
-        waiting: *waiting,
-        pending: p,
-        first: *first,
-    };
-    let f = bytes::fill_bytes(g, kind, out);
-    *from = f.label.first;
-    *upper = f.label.upper;
-    let rng = f.rng;
-    let k = rng.key;
-    let p = rng.pending;
-    *key = k;
-    *stream = rng.stream;
-    *counter = rng.counter;
-    *waiting = rng.waiting;
-    *pending = p;
-    *first = rng.first;
-    *draws = f.draws;
-    f.refusal
+    let g = generator(key, stream, counter, waiting, pending, first);
+    match bytes::fill_bytes(g, kind, out) {
+        Ok(f) => {
+            *from = f.label.first;
+            *upper = f.label.upper;
+            leave(f.rng, key, stream, counter, waiting, pending, first);
+            *draws = f.draws;
+            0
+        }
+        Err(refusal) => {
+            *from = 0;
+            *upper = false;
+            *draws = 0;
+            refusal.number()
+        }
+    }
 }

@@ -15,21 +15,30 @@ use xoshiro::scalar::Xoshiro256pp;
 use xoshiro::x8::Xoshiro256ppX8;
 use xoshiro_fills::{bytes, typed};
 
+// The generator whose rows a caller lends.
+fn generator(s: &[[u64; 8]; 4]) -> Xoshiro256ppX8
+    ensures { result ≡ of_rows s.now }
+{
+    let [s0, s1, s2, s3] = *s;
+    Xoshiro256ppX8 { s0, s1, s2, s3 }
+}
+
+fn rows(g: Xoshiro256ppX8) -> [[u64; 8]; 4]
+    ensures { of_rows result ≡ g }
+{
+    let Xoshiro256ppX8 { s0, s1, s2, s3 } = g;
+    [s0, s1, s2, s3]
+}
+
 // The two jumps answer their steps, and leave in `walked` the state that these led to.
 #[unsafe(no_mangle)]
 pub extern "C" fn oracle_xoshiro_jump(s: &mut [u64; 4], walked: &mut [u64; 4]) -> u64
     ensures { record { rng = record { s = s.new }; steps = result; walked = record { s = walked.new } } ≡
         jumped_by jump_poly (record { s = s.old }) }
 {
-    let now = *s;
-    let g = Xoshiro256pp { s: now };
-    let j = g.jump();
-    let rng = j.rng;
-    let after = rng.s;
-    *s = after;
-    let rng = j.walked;
-    let at = rng.s;
-    *walked = at;
+    let j = Xoshiro256pp { s: *s }.jump();
+    *s = j.rng.state();
+    *walked = j.walked.state();
     j.steps
 }
 
@@ -38,15 +47,9 @@ pub extern "C" fn oracle_xoshiro_long_jump(s: &mut [u64; 4], walked: &mut [u64; 
     ensures { record { rng = record { s = s.new }; steps = result; walked = record { s = walked.new } } ≡
         jumped_by long_jump_poly (record { s = s.old }) }
 {
-    let now = *s;
-    let g = Xoshiro256pp { s: now };
-    let j = g.long_jump();
-    let rng = j.rng;
-    let after = rng.s;
-    *s = after;
-    let rng = j.walked;
-    let at = rng.s;
-    *walked = at;
+    let j = Xoshiro256pp { s: *s }.long_jump();
+    *s = j.rng.state();
+    *walked = j.walked.state();
     j.steps
 }
 
@@ -60,13 +63,7 @@ pub extern "C" fn oracle_xoshiro_from_seed_block(
     ensures { record { rng = of_rows s.new; jumps = result } ≡ placed seed block }
 {
     let p = Xoshiro256ppX8::from_seed_block(seed, block);
-    let rng = p.rng;
-    let s0 = rng.s0;
-    let s1 = rng.s1;
-    let s2 = rng.s2;
-    let s3 = rng.s3;
-    let after = [s0, s1, s2, s3];
-    *s = after;
+    *s = rows(p.rng);
     p.jumps
 }
 
@@ -75,19 +72,8 @@ pub extern "C" fn oracle_xoshiro_from_seed_block(
 pub extern "C" fn oracle_xoshiro_jump_blocks(s: &mut [[u64; 8]; 4], n: u64) -> u64
     ensures { record { rng = of_rows s.new; jumps = result } ≡ moved_blocks n (of_rows s.old) }
 {
-    let s0 = s[0];
-    let s1 = s[1];
-    let s2 = s[2];
-    let s3 = s[3];
-    let g = Xoshiro256ppX8 { s0, s1, s2, s3 };
-    let p = g.jump_blocks(n);
-    let rng = p.rng;
-    let s0 = rng.s0;
-    let s1 = rng.s1;
-    let s2 = rng.s2;
-    let s3 = rng.s3;
-    let after = [s0, s1, s2, s3];
-    *s = after;
+    let p = generator(s).jump_blocks(n);
+    *s = rows(p.rng);
     p.jumps
 }
 
@@ -95,21 +81,10 @@ pub extern "C" fn oracle_xoshiro_jump_blocks(s: &mut [[u64; 8]; 4], n: u64) -> u
 pub extern "C" fn oracle_xoshiro_next_u64x8(s: &mut [[u64; 8]; 4], words: &mut [u64; 8])
     ensures { record { words = words.new; rng = of_rows s.new } ≡ drawn (of_rows s.old) }
 {
-    let s0 = s[0];
-    let s1 = s[1];
-    let s2 = s[2];
-    let s3 = s[3];
-    let g = Xoshiro256ppX8 { s0, s1, s2, s3 };
-    let d = g.next_u64x8();
+    let d = generator(s).next_u64x8();
     let w = d.words;
     *words = w;
-    let rng = d.rng;
-    let s0 = rng.s0;
-    let s1 = rng.s1;
-    let s2 = rng.s2;
-    let s3 = rng.s3;
-    let after = [s0, s1, s2, s3];
-    *s = after;
+    *s = rows(d.rng);
 }
 
 // The fills answer their draws.
@@ -117,19 +92,8 @@ pub extern "C" fn oracle_xoshiro_next_u64x8(s: &mut [[u64; 8]; 4], words: &mut [
 pub extern "C" fn oracle_xoshiro_fill_u64(s: &mut [[u64; 8]; 4], out: &mut [u64]) -> u64
     ensures { Filled engine u64s (of_rows s.old) out.old out.new result (of_rows s.new) }
 {
-    let s0 = s[0];
-    let s1 = s[1];
-    let s2 = s[2];
-    let s3 = s[3];
-    let g = Xoshiro256ppX8 { s0, s1, s2, s3 };
-    let f = typed::fill_u64(g, out);
-    let rng = f.rng;
-    let s0 = rng.s0;
-    let s1 = rng.s1;
-    let s2 = rng.s2;
-    let s3 = rng.s3;
-    let after = [s0, s1, s2, s3];
-    *s = after;
+    let f = typed::fill_u64(generator(s), out);
+    *s = rows(f.rng);
     f.draws
 }
 
@@ -137,19 +101,8 @@ pub extern "C" fn oracle_xoshiro_fill_u64(s: &mut [[u64; 8]; 4], out: &mut [u64]
 pub extern "C" fn oracle_xoshiro_fill_u32(s: &mut [[u64; 8]; 4], out: &mut [u32]) -> u64
     ensures { Filled engine u32s (of_rows s.old) out.old out.new result (of_rows s.new) }
 {
-    let s0 = s[0];
-    let s1 = s[1];
-    let s2 = s[2];
-    let s3 = s[3];
-    let g = Xoshiro256ppX8 { s0, s1, s2, s3 };
-    let f = typed::fill_u32(g, out);
-    let rng = f.rng;
-    let s0 = rng.s0;
-    let s1 = rng.s1;
-    let s2 = rng.s2;
-    let s3 = rng.s3;
-    let after = [s0, s1, s2, s3];
-    *s = after;
+    let f = typed::fill_u32(generator(s), out);
+    *s = rows(f.rng);
     f.draws
 }
 
@@ -157,19 +110,8 @@ pub extern "C" fn oracle_xoshiro_fill_u32(s: &mut [[u64; 8]; 4], out: &mut [u32]
 pub extern "C" fn oracle_xoshiro_fill_f32(s: &mut [[u64; 8]; 4], out: &mut [f32]) -> u64
     ensures { Filled engine f32s (of_rows s.old) out.old out.new result (of_rows s.new) }
 {
-    let s0 = s[0];
-    let s1 = s[1];
-    let s2 = s[2];
-    let s3 = s[3];
-    let g = Xoshiro256ppX8 { s0, s1, s2, s3 };
-    let f = typed::fill_f32(g, out);
-    let rng = f.rng;
-    let s0 = rng.s0;
-    let s1 = rng.s1;
-    let s2 = rng.s2;
-    let s3 = rng.s3;
-    let after = [s0, s1, s2, s3];
-    *s = after;
+    let f = typed::fill_f32(generator(s), out);
+    *s = rows(f.rng);
     f.draws
 }
 
@@ -177,19 +119,8 @@ pub extern "C" fn oracle_xoshiro_fill_f32(s: &mut [[u64; 8]; 4], out: &mut [f32]
 pub extern "C" fn oracle_xoshiro_fill_f64(s: &mut [[u64; 8]; 4], out: &mut [f64]) -> u64
     ensures { Filled engine f64s (of_rows s.old) out.old out.new result (of_rows s.new) }
 {
-    let s0 = s[0];
-    let s1 = s[1];
-    let s2 = s[2];
-    let s3 = s[3];
-    let g = Xoshiro256ppX8 { s0, s1, s2, s3 };
-    let f = typed::fill_f64(g, out);
-    let rng = f.rng;
-    let s0 = rng.s0;
-    let s1 = rng.s1;
-    let s2 = rng.s2;
-    let s3 = rng.s3;
-    let after = [s0, s1, s2, s3];
-    *s = after;
+    let f = typed::fill_f64(generator(s), out);
+    *s = rows(f.rng);
     f.draws
 }
 
@@ -197,19 +128,8 @@ pub extern "C" fn oracle_xoshiro_fill_f64(s: &mut [[u64; 8]; 4], out: &mut [f64]
 pub extern "C" fn oracle_xoshiro_fill_normal_f32(s: &mut [[u64; 8]; 4], out: &mut [f32]) -> u64
     ensures { Filled engine normal_f32s (of_rows s.old) out.old out.new result (of_rows s.new) }
 {
-    let s0 = s[0];
-    let s1 = s[1];
-    let s2 = s[2];
-    let s3 = s[3];
-    let g = Xoshiro256ppX8 { s0, s1, s2, s3 };
-    let f = typed::fill_normal_f32(g, out);
-    let rng = f.rng;
-    let s0 = rng.s0;
-    let s1 = rng.s1;
-    let s2 = rng.s2;
-    let s3 = rng.s3;
-    let after = [s0, s1, s2, s3];
-    *s = after;
+    let f = typed::fill_normal_f32(generator(s), out);
+    *s = rows(f.rng);
     f.draws
 }
 
@@ -217,19 +137,8 @@ pub extern "C" fn oracle_xoshiro_fill_normal_f32(s: &mut [[u64; 8]; 4], out: &mu
 pub extern "C" fn oracle_xoshiro_fill_normal_f64(s: &mut [[u64; 8]; 4], out: &mut [f64]) -> u64
     ensures { Filled engine normal_f64s (of_rows s.old) out.old out.new result (of_rows s.new) }
 {
-    let s0 = s[0];
-    let s1 = s[1];
-    let s2 = s[2];
-    let s3 = s[3];
-    let g = Xoshiro256ppX8 { s0, s1, s2, s3 };
-    let f = typed::fill_normal_f64(g, out);
-    let rng = f.rng;
-    let s0 = rng.s0;
-    let s1 = rng.s1;
-    let s2 = rng.s2;
-    let s3 = rng.s3;
-    let after = [s0, s1, s2, s3];
-    *s = after;
+    let f = typed::fill_normal_f64(generator(s), out);
+    *s = rows(f.rng);
     f.draws
 }
 
@@ -237,19 +146,8 @@ pub extern "C" fn oracle_xoshiro_fill_normal_f64(s: &mut [[u64; 8]; 4], out: &mu
 pub extern "C" fn oracle_xoshiro_fill_open01_f32(s: &mut [[u64; 8]; 4], out: &mut [f32]) -> u64
     ensures { Filled engine open01_f32s (of_rows s.old) out.old out.new result (of_rows s.new) }
 {
-    let s0 = s[0];
-    let s1 = s[1];
-    let s2 = s[2];
-    let s3 = s[3];
-    let g = Xoshiro256ppX8 { s0, s1, s2, s3 };
-    let f = typed::fill_open01_f32(g, out);
-    let rng = f.rng;
-    let s0 = rng.s0;
-    let s1 = rng.s1;
-    let s2 = rng.s2;
-    let s3 = rng.s3;
-    let after = [s0, s1, s2, s3];
-    *s = after;
+    let f = typed::fill_open01_f32(generator(s), out);
+    *s = rows(f.rng);
     f.draws
 }
 
@@ -257,19 +155,8 @@ pub extern "C" fn oracle_xoshiro_fill_open01_f32(s: &mut [[u64; 8]; 4], out: &mu
 pub extern "C" fn oracle_xoshiro_fill_open01_f64(s: &mut [[u64; 8]; 4], out: &mut [f64]) -> u64
     ensures { Filled engine open01_f64s (of_rows s.old) out.old out.new result (of_rows s.new) }
 {
-    let s0 = s[0];
-    let s1 = s[1];
-    let s2 = s[2];
-    let s3 = s[3];
-    let g = Xoshiro256ppX8 { s0, s1, s2, s3 };
-    let f = typed::fill_open01_f64(g, out);
-    let rng = f.rng;
-    let s0 = rng.s0;
-    let s1 = rng.s1;
-    let s2 = rng.s2;
-    let s3 = rng.s3;
-    let after = [s0, s1, s2, s3];
-    *s = after;
+    let f = typed::fill_open01_f64(generator(s), out);
+    *s = rows(f.rng);
     f.draws
 }
 
@@ -283,19 +170,15 @@ pub extern "C" fn oracle_xoshiro_fill_bytes(
 ) -> u64
     ensures { FilledBytes engine kind (of_rows s.old) out.old out.new result draws.new (of_rows s.new) }
 {
-    let s0 = s[0];
-    let s1 = s[1];
-    let s2 = s[2];
-    let s3 = s[3];
-    let g = Xoshiro256ppX8 { s0, s1, s2, s3 };
-    let f = bytes::fill_bytes(g, kind, out);
-    let rng = f.rng;
-    let s0 = rng.s0;
-    let s1 = rng.s1;
-    let s2 = rng.s2;
-    let s3 = rng.s3;
-    let after = [s0, s1, s2, s3];
-    *s = after;
-    *draws = f.draws;
-    f.refusal
+    match bytes::fill_bytes(generator(s), kind, out) {
+        Ok(f) => {
+            *s = rows(f.rng);
+            *draws = f.draws;
+            0
+        }
+        Err(refusal) => {
+            *draws = 0;
+            refusal.number()
+        }
+    }
 }

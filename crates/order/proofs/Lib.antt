@@ -1,4 +1,3 @@
 pub mod Laws
 pub mod Reading
-pub mod Past
 pub mod Theorems

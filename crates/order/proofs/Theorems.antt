@@ -2,6 +2,8 @@
 use mathlib.Core.Bool.{Bool, true, false, cond, not}
 use mathlib.Core.List.{List}
 use mathlib.Core.Path.{◌≡◌, refl}
+use Rattle.std.proofs.Common.{Option, Some, None}
+use Rattle.base.specs.Refusal.{Answer}
 use Prim.Native.Nat.{ℕ, ◌+◌, ◌-◌, ◌^◌, ◌≤◌, ◌<◌}
 use native.Mathlib.Omega.{arith}
 use lib.Dec.{eqb, leb, ltb}
@@ -9,9 +11,8 @@ use lib.ListN.{length}
 use borrow.Author.Tests.{leb-true, eqb-true, eqb-false}
 use Rattle.fills.specs.Kinds.{kinds}
 use Rattle.text.proofs.decimal.Theorems.{number_sound}
-use Rattle.text.specs.decimal.Number.{number_at}
+use Rattle.text.specs.decimal.Number.{read, number_at}
 use Rattle.text.specs.declared.decimal.Number.{Number}
-use Rattle.text.specs.declared.decimal.Number.TheVariants.{Value, Wrong}
 use Rattle.order.proofs.Reading.{past, within}
 use Rattle.order.specs.Claims.{Accepted, Orders}
 use Rattle.order.specs.Order.{engine_of, kind_of, numbered, last_block, last_draw, refused, origin_of, with_draws, with_values, order_of}
@@ -24,9 +25,9 @@ by_test : {A : Type 0} (P : A → Type 0) (b : Bool) {x y : A} → (b ≡ true �
 by_test P true f g = f refl
 by_test P false f g = g refl
 
-by_number : {A : Type 0} (P : A → Type 0) (n : Number) {none : A} {f : ℕ → A} → P none → ((v i : ℕ) → n ≡ Value v i → P (f v)) → P (found none f n)
-by_number P (Value v i) a b = b v i refl
-by_number P Wrong a b = a
+by_number : {A : Type 0} (P : A → Type 0) (n : Option Number) {none : A} {f : ℕ → A} → P none → ((v i : ℕ) → n ≡ read v i → P (f v)) → P (found none f n)
+by_number P (Some n) a b = b n.value n.next refl
+by_number P None a b = a
 
 -- ---- the numbers of engines and kinds
 abbrev last : ℕ
@@ -61,7 +62,7 @@ record Started (o : Order) : Type 0 where
   engine : (1 ≤ o.engine) × (o.engine ≤ 2)
   block : o.block ≤ last_block o.engine
 
-started : (engine seed block first : List ℕ) → (origin_of engine seed block first).refusal ≡ 0 → Started (origin_of engine seed block first)
+started : (engine seed block first : List ℕ) → (origin_of engine seed block first).refusal ≡ 0 → Started (origin_of engine seed block first).value
 unfolding origin_of
 started engine seed block first =
     let e = engine_of engine in
@@ -71,10 +72,10 @@ started engine seed block first =
     by_number Fine (number_at (last_draw e) 0 first 0) (not_refused (omega arith)) (λ f k vf r.
     record { engine = (some e (eqb-false e 0 q), engine_known engine); block = (number_sound (last_block e) 0 block 0 b j vb).1 }))))
   where
-    Fine : Order → Type 0
-    Fine o = o.refusal ≡ 0 → Started o
+    Fine : Answer Order → Type 0
+    Fine a = a.refusal ≡ 0 → Started a.value
 
-accepted-at : (o : Order) (kind count : List ℕ) (raw : Bool) → Started o → (with_values o kind count raw).refusal ≡ 0 → Accepted (with_values o kind count raw)
+accepted-at : (o : Order) (kind count : List ℕ) (raw : Bool) → Started o → (with_values o kind count raw).refusal ≡ 0 → Accepted (with_values o kind count raw).value
 unfolding with_values with_draws
 accepted-at o kind count raw S =
     let k = kind_of kind in
@@ -91,8 +92,8 @@ accepted-at o kind count raw S =
     })
     (λ _. not_refused (omega arith))))
   where
-    Fine : Order → Type 0
-    Fine o = o.refusal ≡ 0 → Accepted o
+    Fine : Answer Order → Type 0
+    Fine a = a.refusal ≡ 0 → Accepted a.value
 
 pub orders : Orders
 unfolding order_of
@@ -102,8 +103,8 @@ orders given engine seed block first kind count last =
     by_test Fine (ltb 7 given) (λ _. not_refused (omega arith)) (λ _.
     by_test Fine (not (eqb o.refusal 0)) (λ t r. absurd (eqb-false _ 0 (past _ t) r)) (λ t.
     let S = started engine seed block first (eqb-true _ 0 (within _ t)) in
-    by_test Fine (eqb given 6) (λ _. accepted-at o kind count false S) (λ _.
-    by_test Fine (starts_with words.raw last) (λ _. accepted-at o kind count true S) (λ _. not_refused (omega arith))))))
+    by_test Fine (eqb given 6) (λ _. accepted-at o.value kind count false S) (λ _.
+    by_test Fine (starts_with words.raw last) (λ _. accepted-at o.value kind count true S) (λ _. not_refused (omega arith))))))
   where
-    Fine : Order → Type 0
-    Fine o = o.refusal ≡ 0 → Accepted o
+    Fine : Answer Order → Type 0
+    Fine a = a.refusal ≡ 0 → Accepted a.value

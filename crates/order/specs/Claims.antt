@@ -17,4 +17,4 @@ pub record Accepted (o : Order) : Type 0 where
 
 abbrev pub Orders : Type 0
 Orders = (given : ℕ) (engine seed block first kind count last : List ℕ)
-    → (order_of given engine seed block first kind count last).refusal ≡ 0 → Accepted (order_of given engine seed block first kind count last)
+    → (order_of given engine seed block first kind count last).refusal ≡ 0 → Accepted (order_of given engine seed block first kind count last).value

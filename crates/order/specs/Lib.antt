@@ -1,3 +1,4 @@
 pub mod Words
+pub mod Faults
 pub mod Order
 pub mod Claims

@@ -1,8 +1,7 @@
 -- Words and numbers among a program's arguments. An argument stands in an array of zeros that is longer than it, so that a 0 ends it.
-use Rattle.std.specs.Prelude.{Bool, true, false, ◌&&◌, List, [], ◌∷◌, ℕ, eqb}
+use Rattle.std.specs.Prelude.{Bool, true, false, ◌&&◌, List, [], ◌∷◌, ℕ, eqb, Option, Some, None}
 use Rattle.text.specs.decimal.Number.{number_at}
 use Rattle.text.specs.declared.decimal.Number.{Number}
-use Rattle.text.specs.declared.decimal.Number.TheVariants.{Value, Wrong}
 
 -- whether a text starts with a word
 unfoldable pub starts_with : List ℕ → List ℕ → Bool
@@ -47,9 +46,9 @@ abbrev pub raw : List ℕ
 raw = 114 ∷ 97 ∷ 119 ∷ 0 ∷ []
 
 -- of a number that was read: f of it, or `none`
-abbrev pub found : {A : Type 0} → A → (ℕ → A) → Number → A
-found none f (Value v i) = f v
-found none f Wrong = none
+abbrev pub found : {A : Type 0} → A → (ℕ → A) → Option Number → A
+found none f (Some n) = f n.value
+found none f None = none
 
 -- of the number that a text is, at most top
 abbrev pub number : {A : Type 0} → (top : ℕ) → List ℕ → A → (ℕ → A) → A

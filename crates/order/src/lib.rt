@@ -2,20 +2,21 @@
 // zeros that is longer than it, so that a 0 ends it.
 #![tactic(auto)]
 
-ghost use Rattle.std.specs.Prelude.{◌≡◌, cond, not, ◌+◌, leb};
-ghost use Rattle.order.specs.Words.{starts_with};
-ghost use Rattle.order.specs.Order.{engine_of, numbered, kind_of, last_block, last_draw, origin_of, with_draws, with_values, order_of};
-ghost use Rattle.order.specs.Order.{refused as refusedOrder};
+ghost use Rattle.std.specs.Prelude.{◌≡◌, not, ◌+◌, leb, Some, None, nat_eq, position};
+ghost use Rattle.std.specs.List.{starts_with as begins_with};
+ghost use Rattle.order.specs.Words.{number};
+ghost use Rattle.order.specs.Order.{engine_of, numbered, kind_of, last_block, last_draw, origin_of, with_draws, with_values, order_of, nonzero};
+ghost use Rattle.order.specs.Faults.{engine_in, number_of_engine, blank, answer_of, started, origin_in};
 
 use fills::kinds;
+use std::error::Error;
+use std::fmt;
 use text::decimal;
-use text::decimal::Number;
 
-// An order, with the draws that its values take. `refusal` is 0, or the number of what is wrong (none of the scope document's refusals): argument
-// 1 to 7; 8, more draws than there are from `first` on; 9, too few arguments or too many. Then the rest is 0.
-#[derive(Clone, Copy)]
+// An order, with the draws that its values take.
+#[derive(Clone, Copy, Debug, PartialEq, Eq)]
 pub struct Order {
-    pub refusal: u64,
+    // 1 xoshiro256++, 2 Philox
     pub engine: u64,
     pub seed: u64,
     pub block: u64,
@@ -26,141 +27,168 @@ pub struct Order {
     pub raw: bool,
 }
 
-fn refused(n: u64) -> Order
-    ensures { result ≡ refusedOrder n }
-{
-    Order {
-        refusal: n,
-        engine: 0,
-        seed: 0,
-        block: 0,
-        first: 0,
-        kind: 0,
-        count: 0,
-        draws: 0,
-        raw: false,
+// What is wrong with the arguments (none of the scope document's refusals).
+#[derive(Clone, Copy, Debug, PartialEq, Eq)]
+pub enum Fault {
+    Engine,
+    Seed,
+    Block,
+    First,
+    Kind,
+    Count,
+    // The last argument, where there are seven.
+    Last,
+    // More draws than there are from `first` on.
+    Draws,
+    // Too few arguments or too many.
+    Arguments,
+}
+
+// What the argument takes that is wrong, or why the order as a whole is refused.
+impl fmt::Display for Fault {
+    fn fmt<W: fmt::Write>(&self, f: &mut fmt::Formatter<W>) -> fmt::Result {
+        let text = match self {
+            Fault::Engine => "ENGINE: xoshiro or philox",
+            Fault::Seed =>
+                "SEED: a whole number in decimal digits, with no zero in front, from 0 to 18446744073709551615",
+            Fault::Block =>
+                "BLOCK: a whole number in decimal digits, with no zero in front, from 0 to 2305843009213693951 for xoshiro, to 18446744073709551615 for philox",
+            Fault::First =>
+                "FIRST: a whole number in decimal digits, with no zero in front, from 0 to 18446744073709551615 for xoshiro, to 4611686018427387903 for philox",
+            Fault::Kind =>
+                "KIND: 1 to 8, or u64, u32, f32, f64, normal_f32, normal_f64, open01_f32, open01_f64",
+            Fault::Count =>
+                "COUNT: a whole number in decimal digits, with no zero in front, from 0 to 18446744073709551615",
+            Fault::Last => "the last argument: raw, or nothing",
+            Fault::Draws =>
+                "COUNT: FIRST and the draws of COUNT values come to more than 18446744073709551616 for xoshiro, 4611686018427387904 for philox",
+            Fault::Arguments => "usage: deliver ENGINE SEED BLOCK FIRST KIND COUNT [raw]",
+        };
+        write!(f, "{text}")
     }
 }
 
-// Whether a text starts with the word w.
-fn is_word(w: &[u8], s: &[u8]) -> bool
-    ensures { result ≡ starts_with w.now s.now }
-{
-    let mut i = 0;
-    while i < w.len() {
-        if s.len() <= i {
-            return false;
+impl Error for Fault {}
+
+#[derive(Clone, Copy, Debug, PartialEq, Eq)]
+enum Engine {
+    Xoshiro,
+    Philox,
+}
+
+impl Engine {
+    fn number(self) -> u64
+        ensures { result ≡ number_of_engine self }
+    {
+        match self {
+            Engine::Xoshiro => 1,
+            Engine::Philox => 2,
         }
-        if w[i] != s[i] {
-            return false;
+    }
+
+    fn last_block(self) -> u64
+        ensures { result ≡ last_block (number_of_engine self) }
+    {
+        match self {
+            Engine::Xoshiro => 0x1FFF_FFFF_FFFF_FFFF,
+            Engine::Philox => 0xFFFF_FFFF_FFFF_FFFF,
         }
-        i += 1;
     }
-    true
-}
 
-// k where a text starts with the word w, else other.
-fn named(w: &[u8], s: &[u8], k: u64, other: u64) -> u64
-    ensures { result ≡ cond (starts_with w.now s.now) k other }
-{
-    if is_word(w, s) {
-        return k;
+    fn last_draw(self) -> u64
+        ensures { result ≡ last_draw (number_of_engine self) }
+    {
+        match self {
+            Engine::Xoshiro => 0xFFFF_FFFF_FFFF_FFFF,
+            Engine::Philox => 0x3FFF_FFFF_FFFF_FFFF,
+        }
     }
-    other
 }
 
-// The engine that an argument names: 1 xoshiro, 2 Philox, 0 none.
-fn engine_of(s: &[u8]) -> u64
-    ensures { result ≡ engine_of s.now }
+// The engine that an argument names.
+fn engine_of(s: &[u8]) -> Option<Engine>
+    ensures { engine_in result ≡ engine_of s.now }
 {
-    let e = named(b"philox\0", s, 2, 0);
-    named(b"xoshiro\0", s, 1, e)
-}
-
-fn numbered_kind(s: &[u8]) -> u64
-    ensures { result ≡ numbered s.now }
-{
-    let Number::Value(k, _) = decimal::read_number(s, 0, 0, kinds::count()) else {
-        return 0;
-    };
-    k
-}
-
-// The kind that an argument names, by its name or its number, or 0.
-fn kind_of(s: &[u8]) -> u64
-    ensures { result ≡ kind_of s.now }
-{
-    let k = numbered_kind(s);
-    let k = named(b"open01_f64\0", s, 8, k);
-    let k = named(b"open01_f32\0", s, 7, k);
-    let k = named(b"normal_f64\0", s, 6, k);
-    let k = named(b"normal_f32\0", s, 5, k);
-    let k = named(b"f64\0", s, 4, k);
-    let k = named(b"f32\0", s, 3, k);
-    let k = named(b"u32\0", s, 2, k);
-    named(b"u64\0", s, 1, k)
-}
-
-fn last_block(engine: u64) -> u64
-    ensures { result ≡ last_block engine }
-{
-    if engine == 1 {
-        return 0x1FFF_FFFF_FFFF_FFFF;
+    if s.starts_with(b"xoshiro\0") {
+        return Some(Engine::Xoshiro);
     }
-    0xFFFF_FFFF_FFFF_FFFF
+    if s.starts_with(b"philox\0") {
+        return Some(Engine::Philox);
+    }
+    None
 }
 
-fn last_draw(engine: u64) -> u64
-    ensures { result ≡ last_draw engine }
+// The number that an argument is, at most top.
+fn number(s: &[u8], top: u64) -> Option<u64>
+    ensures { result ≡ number top s.now None Some }
 {
-    if engine == 1 {
-        return 0xFFFF_FFFF_FFFF_FFFF;
+    decimal::read_number(s, 0, 0, top).map(|n| n.value)
+}
+
+// The names of the kinds, from kind 1 on.
+const NAMES: [&[u8]; 8] = [
+    b"u64\0",
+    b"u32\0",
+    b"f32\0",
+    b"f64\0",
+    b"normal_f32\0",
+    b"normal_f64\0",
+    b"open01_f32\0",
+    b"open01_f64\0",
+];
+
+// The place of the first of some words that a text starts with.
+fn named(words: &[&[u8]], s: &[u8]) -> Option<usize>
+    ensures { result ≡ position (λ w. begins_with nat_eq s.now w.now) words.now }
+{
+    words.iter().position(|w| s.starts_with(w))
+}
+
+// The kind that an argument names, by its name or its number.
+fn kind_of(s: &[u8]) -> Option<u64>
+    ensures { result ≡ nonzero (kind_of s.now) }
+{
+    if let Some(i) = named(&NAMES, s) {
+        return Some(i as u64 + 1);
     }
-    0x3FFF_FFFF_FFFF_FFFF
+    let k = number(s, kinds::count())?;
+    (k != 0).then_some(k)
 }
 
 // Where an order starts: the generator and its draw `first`.
-fn origin(engine: &[u8], seed: &[u8], block: &[u8], first: &[u8]) -> Order
-    ensures { result ≡ origin_of engine.now seed.now block.now first.now }
+#[derive(Clone, Copy)]
+struct Start {
+    engine: Engine,
+    seed: u64,
+    block: u64,
+    first: u64,
+}
+
+fn origin(engine: &[u8], seed: &[u8], block: &[u8], first: &[u8]) -> Result<Start, Fault>
+    ensures { origin_in result ≡ origin_of engine.now seed.now block.now first.now }
 {
-    let e = engine_of(engine);
-    if e == 0 {
-        return refused(1);
-    }
-    let Number::Value(s, _) = decimal::read_number(seed, 0, 0, 0xFFFF_FFFF_FFFF_FFFF) else {
-        return refused(2);
-    };
-    let Number::Value(b, _) = decimal::read_number(block, 0, 0, last_block(e)) else {
-        return refused(3);
-    };
-    let Number::Value(f, _) = decimal::read_number(first, 0, 0, last_draw(e)) else {
-        return refused(4);
-    };
-    Order {
-        refusal: 0,
-        engine: e,
-        seed: s,
-        block: b,
-        first: f,
-        kind: 0,
-        count: 0,
-        draws: 0,
-        raw: false,
-    }
+    let engine = engine_of(engine).ok_or(Fault::Engine)?;
+    let seed = number(seed, 0xFFFF_FFFF_FFFF_FFFF).ok_or(Fault::Seed)?;
+    let block = number(block, engine.last_block()).ok_or(Fault::Block)?;
+    let first = number(first, engine.last_draw()).ok_or(Fault::First)?;
+    Ok(Start {
+        engine,
+        seed,
+        block,
+        first,
+    })
 }
 
 // The order that starts at `o`, of `count` values of a kind.
-fn with_draws(o: Order, kind: u64, count: u64, raw: bool) -> Order
-    ensures { result ≡ with_draws o kind count raw }
+fn with_draws(o: Start, kind: u64, count: u64, raw: bool) -> Result<Order, Fault>
+    ensures { answer_of result ≡ with_draws (started o) kind count raw }
 {
     let draws = kinds::draws_of(kind, count);
-    let last = last_draw(o.engine);
-    if is_past(o.first, draws, last) {
-        return refused(8);
+    if is_past(o.first, draws, o.engine.last_draw()) {
+        return Err(Fault::Draws);
     }
-    Order {
-        refusal: 0,
-        engine: o.engine,
+    Ok(Order {
+        engine: o.engine.number(),
         seed: o.seed,
         block: o.block,
         first: o.first,
@@ -168,7 +196,7 @@ fn with_draws(o: Order, kind: u64, count: u64, raw: bool) -> Order
         count,
         draws,
         raw,
-    }
+    })
 }
 
 // Whether `draws` draws from draw `first` on go past the draw `last`.
@@ -189,16 +217,11 @@ fn is_past(first: u64, draws: u64, last: u64) -> bool
     last - first < draws - 1
 }
 
-fn with_values(o: Order, kind: &[u8], count: &[u8], raw: bool) -> Order
-    ensures { result ≡ with_values o kind.now count.now raw }
+fn with_values(o: Start, kind: &[u8], count: &[u8], raw: bool) -> Result<Order, Fault>
+    ensures { answer_of result ≡ with_values (started o) kind.now count.now raw }
 {
-    let k = kind_of(kind);
-    if k == 0 {
-        return refused(5);
-    }
-    let Number::Value(c, _) = decimal::read_number(count, 0, 0, 0xFFFF_FFFF_FFFF_FFFF) else {
-        return refused(6);
-    };
+    let k = kind_of(kind).ok_or(Fault::Kind)?;
+    let c = number(count, 0xFFFF_FFFF_FFFF_FFFF).ok_or(Fault::Count)?;
     with_draws(o, k, c, raw)
 }
 
@@ -212,24 +235,21 @@ pub fn read(
     kind: &[u8],
     count: &[u8],
     last: &[u8],
-) -> Order
-    ensures { result ≡ order_of given engine.now seed.now block.now first.now kind.now count.now last.now }
+) -> Result<Order, Fault>
+    ensures { answer_of result ≡ order_of given engine.now seed.now block.now first.now kind.now count.now last.now }
 {
     if given < 6 {
-        return refused(9);
+        return Err(Fault::Arguments);
     }
     if given > 7 {
-        return refused(9);
+        return Err(Fault::Arguments);
     }
-    let o = origin(engine, seed, block, first);
-    if o.refusal != 0 {
-        return o;
-    }
+    let o = origin(engine, seed, block, first)?;
     if given == 6 {
         return with_values(o, kind, count, false);
     }
-    if is_word(b"raw\0", last) {
+    if last.starts_with(b"raw\0") {
         return with_values(o, kind, count, true);
     }
-    refused(7)
+    Err(Fault::Last)
 }

@@ -3,7 +3,7 @@ ghost use Rattle.std.specs.Prelude.{◌≡◌, slice_index};
 ghost use Rattle.base.specs.Quad.{quad_of, list_of};
 ghost use Rattle.philox.specs.block.Philox.{round as roundOf, rounds, group_of};
 
-// The multipliers, and what a round adds to the key words.
+// The multipliers, and what a round adds to the key words (by std's function for sums that wrap, as the scope document has it).
 const M0: u32 = 0xD251_1F53;
 
 const M1: u32 = 0xCD9E_8D57;
@@ -12,7 +12,8 @@ const W0: u32 = 0x9E37_79B9;
 
 const W1: u32 = 0xBB67_AE85;
 
-// One round under the key words `k0` and `k1`.
+// One round under the key words `k0` and `k1`, on words of 32 bits as the documents have it. (`draws` has it on words of 64, for speed: two
+// writings, each proved equal to one definition.)
 fn round(c: [u32; 4], k0: u32, k1: u32) -> [u32; 4]
     ensures { result ≡ list_of (roundOf k0 k1 (quad_of c)) }
 {
@@ -50,7 +51,8 @@ pub struct Group {
     pub w3: [u32; 8],
 }
 
-// Blocks `n` to `n + 7`, each modulo 2^64, of stream `stream` under `key`.
+// Blocks `n` to `n + 7`, each modulo 2^64, of stream `stream` under `key`. (The loop stores the words of each block as they come: eight
+// blocks by `from_fn`, their words then put into rows, take 5 % longer a draw.)
 pub fn eight_blocks(key: [u32; 2], stream: u64, n: u64) -> Group
     ensures { result ≡ group_of (slice_index key 0) (slice_index key 1) stream n }
 {

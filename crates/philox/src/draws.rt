@@ -9,7 +9,7 @@ ghost use Rattle.philox.specs.x8.Machine.{upper_at, label_of, drawn, engine};
 ghost use Rattle.philox.specs.draws.Draws.{Small, lower_of, upper_of, at_block, draws_at_once};
 
 use crate::x8::{Draw, Label, Philox4x32X8};
-use slices::u64s;
+use slices::put;
 
 // The multipliers, and what a round adds to the key words.
 const M0: u64 = 0xD251_1F53;
@@ -27,7 +27,8 @@ struct Halves {
     upper: u64,
 }
 
-// One round of a block (`philox::block::round`), its words of 32 bits held in words of 64: several blocks then become vector code.
+// One round of a block (`philox::block::round`), its words of 32 bits held in words of 64: several blocks then become vector code. (Two
+// writings, each proved equal to one definition; the other is the plain one.)
 fn round(c: [u64; 4], k0: u32, k1: u32) -> [u64; 4]
     requires { Small (quad_of c) }
     ensures { result ≡ list_of (roundOf k0 k1 (quad_of c)) }
@@ -86,43 +87,22 @@ fn half(both: &[u64; 16], first: usize) -> [u64; 8]
     requires { first ≤ 8 }
     ensures { result ≡ table 8 (λ k. slice_index both.now (first + k)) }
 {
-    let mut w = [0u64; 8];
-    for k in 0..8 {
-        w[k] = both[first + k];
-    }
-    w
+    std::array::from_fn(|k| both[first + k])
 }
 
 // One draw, as the plain one (`next_u64x8`), its blocks made as above.
 pub fn draw(g: Philox4x32X8) -> Draw
     ensures { result ≡ drawn g }
 {
-    let waiting = g.waiting;
-    if waiting {
-        let words = g.pending;
-        let first = g.first;
-        let upper = true;
-        let label = Label { first, upper };
-        let rng = g.seek(g.counter);
-        return Draw { words, label, rng };
+    if g.waiting {
+        return g.waiting_draw();
     }
     let key = g.key;
     let mut both = [0u64; 16];
     let counter = put_groups(key, g.stream, g.counter, &mut both, 0, 1);
     let words = half(&both, 0);
     let pending = half(&both, 8);
-    let first = g.counter;
-    let rng = Philox4x32X8 {
-        key,
-        stream: g.stream,
-        counter,
-        waiting: true,
-        pending,
-        first,
-    };
-    let upper = false;
-    let label = Label { first, upper };
-    Draw { words, label, rng }
+    g.first_draw(counter, words, pending)
 }
 
 // The upper words of the eight blocks from block `n` on.
@@ -153,7 +133,7 @@ pub fn draw_many(g: Philox4x32X8, out: &mut [u64], at: usize) -> Drawn
     if waiting {
         let d = g.next_u64x8();
         let w = d.words;
-        u64s::put_u64(out, at, w);
+        put::put(out, at, w);
         let rng = d.rng;
         let label = d.label;
         return Drawn {

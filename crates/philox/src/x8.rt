@@ -1,5 +1,5 @@
 // Philox4x32-10, eight blocks at a time (Philox4x32X8 of the Rust's philox.rs).
-ghost use Rattle.std.specs.Prelude.{◌≡◌, ◌+◌, ◌*◌, ◌%◌, ◌^◌, ◌<◌};
+ghost use Rattle.std.specs.Prelude.{◌≡◌, true, false, ◌+◌, ◌*◌, ◌%◌, ◌^◌, ◌<◌};
 ghost use Rattle.philox.specs.x8.Machine.{join_of, fresh, sought, grouped, label_of, drawn, skipped, left_of};
 
 use crate::block;
@@ -8,15 +8,12 @@ use crate::block;
 fn joined(lo: [u32; 8], hi: [u32; 8]) -> [u64; 8]
     ensures { result ≡ join_of lo hi }
 {
-    let mut out = [0u64; 8];
-    for i in 0..8 {
-        out[i] = words::join(lo[i], hi[i]);
-    }
-    out
+    std::array::from_fn(|i| words::join(lo[i], hi[i]))
 }
 
 // A key, a stream and a block counter; and eight words that wait for the next draw, with the first block of their group, or zeros where
-// none wait. (The one byte stands last, so that a copy moves the words as words.)
+// none wait. (The one byte stands last, so that a copy moves the words as words. An array beside a yes or no, and no Option: the scope document
+// names this form.)
 #[derive(Clone, Copy)]
 pub struct Philox4x32X8 {
     pub key: [u32; 2],
@@ -34,7 +31,7 @@ pub struct Label {
     pub upper: bool,
 }
 
-// Eight words, their label, and the generator after them.
+// Eight words, their label, and the generator after them. (Records: the scope document's form for a pair.)
 #[derive(Clone, Copy)]
 pub struct Draw {
     pub words: [u64; 8],
@@ -161,18 +158,54 @@ impl Philox4x32X8 {
         }
     }
 
+    // The draw of the words that wait. This draw and the next are what the two writings of a draw share, `next_u64x8` and `draws::draw`: they
+    // differ in how the blocks of a group are made.
+    pub(crate) fn waiting_draw(self) -> Draw
+        requires { self.waiting ≡ true }
+        ensures { result ≡ drawn self }
+    {
+        let words = self.pending;
+        let first = self.first;
+        let upper = true;
+        Draw {
+            words,
+            label: Label { first, upper },
+            rng: self.seek(self.counter),
+        }
+    }
+
+    // The draw that begins a group at the counter: `words` are its lower words, `pending` its upper ones, which then wait, and `counter` is the
+    // block after it.
+    pub(crate) fn first_draw(self, counter: u64, words: [u64; 8], pending: [u64; 8]) -> Draw
+        ensures { result ≡ record {
+          words = words;
+          label = record { first = self.counter; upper = false };
+          rng = record { key = self.key; stream = self.stream; counter = counter; waiting = true; pending = pending; first = self.counter };
+        } }
+    {
+        let key = self.key;
+        let first = self.counter;
+        let upper = false;
+        Draw {
+            words,
+            label: Label { first, upper },
+            rng: Philox4x32X8 {
+                key,
+                stream: self.stream,
+                counter,
+                waiting: true,
+                pending,
+                first,
+            },
+        }
+    }
+
     // One draw: the words that wait; or the lower words of the next eight blocks, whose upper words then wait.
     pub fn next_u64x8(self) -> Draw
         ensures { result ≡ drawn self }
     {
-        let waiting = self.waiting;
-        if waiting {
-            let words = self.pending;
-            let first = self.first;
-            let upper = true;
-            let label = Label { first, upper };
-            let rng = self.seek(self.counter);
-            return Draw { words, label, rng };
+        if self.waiting {
+            return self.waiting_draw();
         }
         let key = self.key;
         let group = block::eight_blocks(key, self.stream, self.counter);
@@ -182,18 +215,7 @@ impl Philox4x32X8 {
         let w3 = group.w3;
         let words = joined(w0, w1);
         let pending = joined(w2, w3);
-        let first = self.counter;
-        let rng = Philox4x32X8 {
-            key,
-            stream: self.stream,
-            counter: std::num::wrapping_add_u64(self.counter, 8),
-            waiting: true,
-            pending,
-            first,
-        };
-        let upper = false;
-        let label = Label { first, upper };
-        Draw { words, label, rng }
+        self.first_draw(std::num::wrapping_add_u64(self.counter, 8), words, pending)
     }
 
     // The generator after `n` draws.

@@ -6,9 +6,10 @@ ghost use Rattle.fills.specs.Kinds.{u64s};
 ghost use Rattle.philox.specs.x8.Machine.{label_of, engine};
 ghost use Rattle.philox_fills.specs.Labelled.{LabelledFill};
 
+use elements::engine::Made;
 use philox::draws;
 use philox::x8::{Label, Philox4x32X8};
-use slices::u64s;
+use slices::put;
 
 // The draws that a fill made, the label of the first (of the next draw, where it made none), and the generator after them.
 #[derive(Clone, Copy)]
@@ -18,15 +19,8 @@ pub struct Fill {
     pub rng: Philox4x32X8,
 }
 
-// What the parts of a fill hand on: draws that were made, and the generator after them.
-#[derive(Clone, Copy)]
-pub(crate) struct Made {
-    pub draws: u64,
-    pub rng: Philox4x32X8,
-}
-
 // A fill from `start` on, of the draws that were made for it.
-pub(crate) fn labelled(start: Philox4x32X8, made: Made) -> Fill
+pub(crate) fn labelled(start: Philox4x32X8, made: Made<Philox4x32X8>) -> Fill
     ensures { result ≡ record { draws = made.draws; label = label_of start; rng = made.rng } }
 {
     let label = start.label();
@@ -39,7 +33,7 @@ pub(crate) fn labelled(start: Philox4x32X8, made: Made) -> Fill
 }
 
 // Kind 1, draw by draw.
-fn fill_u64_plain(g: Philox4x32X8, out: &mut [u64]) -> Made
+fn fill_u64_plain(g: Philox4x32X8, out: &mut [u64]) -> Made<Philox4x32X8>
     ensures { Filled engine u64s g out.old out.new result.draws result.rng }
 {
     let mut rng = g;
@@ -48,7 +42,7 @@ fn fill_u64_plain(g: Philox4x32X8, out: &mut [u64]) -> Made
     while at < out.len() {
         let d = draws::draw(rng);
         let w = d.words;
-        u64s::put_u64(out, at, w);
+        put::put(out, at, w);
         rng = d.rng;
         draws += 1;
         at += 8;

@@ -1,5 +1,5 @@
-// Words in the places of a slice, and as bytes.
+// Elements stored in the places of a slice; words and halves as bytes.
 #![tactic(auto)]
 
 pub mod bytes;
-pub mod u64s;
+pub mod put;

@@ -3,13 +3,13 @@ ghost use Rattle.std.specs.Prelude.{◌≡◌, ◌+◌, ◌≤◌, length, nat_l
 ghost use Rattle.base.specs.Put.{Put, given};
 ghost use Rattle.text.specs.decimal.Decimal.{decimal, padded};
 ghost use Rattle.text.specs.decimal.Long.{long_of, value_of, fitting};
-ghost use Rattle.text.specs.decimal.Number.{extends, number_at};
+ghost use Rattle.text.specs.decimal.Number.{extended, number_at};
 
-// What reading a number finds: its value, and the place behind the byte that ends it.
-#[derive(Clone, Copy)]
-pub enum Number {
-    Value(u64, usize),
-    Wrong,
+// A number that was read: its value, and the place behind the byte that ends it.
+#[derive(Clone, Copy, Debug, PartialEq, Eq)]
+pub struct Number {
+    pub value: u64,
+    pub next: usize,
 }
 
 // How many digits v has. Four at a time, as a division costs more than a comparison.
@@ -35,7 +35,7 @@ fn digits(v: u64) -> usize
 }
 
 // Whether a text of n bytes has room from place at on in a buffer of size bytes.
-fn holds(size: usize, at: usize, n: usize) -> bool
+pub(crate) fn holds(size: usize, at: usize, n: usize) -> bool
     ensures { result ≡ nat_le (at + n) size }
 {
     if size < n {
@@ -48,7 +48,7 @@ fn digit(d: u64) -> u8
     requires { d ≤ 9 }
     ensures { result ≡ 48 + d }
 {
-    48 + d as u8
+    b'0' + d as u8
 }
 
 // Writes the last k digits of v from the last to the first, two to a division.
@@ -56,19 +56,18 @@ fn put_padded(v: u64, k: usize, out: &mut [u8], at: usize) -> usize
     requires { at + k ≤ length out.old }
     ensures { Put (padded k v) at out.old out.new result }
 {
+    let odd = k % 2;
     let mut w = v;
-    let mut j = k;
-    while 2 <= j {
+    for pair in (0..k / 2).rev() {
+        let place = at + odd + 2 * pair;
         let two = w % 100;
         w = w / 100;
-        j -= 2;
-        out[at + j + 1] = digit(two % 10);
-        out[at + j] = digit(two / 10);
+        out[place + 1] = digit(two % 10);
+        out[place] = digit(two / 10);
     }
-    if j == 0 {
-        return at + k;
+    if odd == 1 {
+        out[at] = digit(w % 10);
     }
-    out[at] = digit(w % 10);
     at + k
 }
 
@@ -83,55 +82,37 @@ pub fn put_number(v: u64, out: &mut [u8], at: usize) -> usize
     put_padded(v, n, out, at)
 }
 
-fn wide(b: u8) -> u64
-    ensures { result ≡ b }
+// The value of v's digits with the byte b behind them, where b is a digit and the value is at most top.
+fn extended(top: u64, v: u64, b: u8) -> Option<u64>
+    ensures { result ≡ extended top v b }
 {
-    b as u64
-}
-
-// Whether b is a digit that may stand behind the digits of v, with a value of at most top.
-fn extended(top: u64, v: u64, b: u8) -> bool
-    ensures { result ≡ extends top v b }
-{
-    if b < 48 {
-        return false;
+    if b < b'0' || b > b'9' || v > top / 10 {
+        return None;
     }
-    if 57 < b {
-        return false;
+    let d = u64::from(b - b'0');
+    if d > top - v * 10 {
+        return None;
     }
-    if top / 10 < v {
-        return false;
-    }
-    wide(b - 48) <= top - v * 10
+    Some(v * 10 + d)
 }
 
 // Reads the number that starts at a place of s and ends before the byte stop: no zero in front, at most top.
-pub fn read_number(s: &[u8], at: usize, stop: u8, top: u64) -> Number
+pub fn read_number(s: &[u8], at: usize, stop: u8, top: u64) -> Option<Number>
     ensures { result ≡ number_at top stop s.now at }
 {
-    if s.len() <= at {
-        return Number::Wrong;
-    }
-    if !extended(top, 0, s[at]) {
-        return Number::Wrong;
-    }
-    let mut v = wide(s[at] - 48);
-    let mut i = at + 1;
-    while i < s.len() {
+    let first = *s.get(at)?;
+    let mut value = extended(top, 0, first)?;
+    for i in at + 1..s.len() {
         let b = s[i];
         if b == stop {
-            return Number::Value(v, i + 1);
+            return Some(Number { value, next: i + 1 });
         }
-        if v == 0 {
-            return Number::Wrong;
+        if value == 0 {
+            return None;
         }
-        if !extended(top, v, b) {
-            return Number::Wrong;
-        }
-        v = v * 10 + wide(b - 48);
-        i += 1;
+        value = extended(top, value, b)?;
     }
-    Number::Wrong
+    None
 }
 
 // A number of more than 64 bits: 10^18 for each of high, and low, which is less than that.

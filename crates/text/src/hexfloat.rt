@@ -11,7 +11,11 @@ fn hex_digit(d: u64) -> u8
     requires { d ≤ 15 }
     ensures { result ≡ hex_digit d }
 {
-    if d < 10 { 48 + d as u8 } else { 87 + d as u8 }
+    if d < 10 {
+        b'0' + d as u8
+    } else {
+        b'a' - 10 + d as u8
+    }
 }
 
 // Writes the last k hexadecimal digits of v, from the last to the first.
@@ -20,9 +24,7 @@ fn put_hex(v: u64, k: usize, out: &mut [u8], at: usize) -> usize
     ensures { Put (hex_padded k v) at out.old out.new result }
 {
     let mut w = v;
-    let mut j = k;
-    while 0 < j {
-        j -= 1;
+    for j in (0..k).rev() {
         out[at + j] = hex_digit(w % 16);
         w = w / 16;
     }
@@ -39,15 +41,23 @@ fn put_stripped(t: u64, out: &mut [u8], at: usize) -> usize
         return put_hex(t, 13, out, at);
     }
     let mut w = t;
-    let mut k: usize = 13;
-    while 0 < k {
+    for k in (0..13).rev() {
         if w % 16 != 0 {
-            return put_hex(w, k, out, at);
+            return put_hex(w, k + 1, out, at);
         }
         w = w / 16;
-        k -= 1;
     }
     at
+}
+
+// Writes bytes that have room. (A writer takes the buffer and a place, and no struct of both: Put names the buffer before and after the call, which
+// a struct that holds the `&mut` would have to say of its borrow.)
+fn put_all<const N: usize>(bytes: [u8; N], out: &mut [u8], at: usize) -> usize
+    requires { at + N ≤ length out.old }
+    ensures { Put bytes.entry at out.old out.new result }
+{
+    out[at..at + N].copy_from_slice(&bytes);
+    at + N
 }
 
 fn put_fraction(t: u64, out: &mut [u8], at: usize) -> usize
@@ -57,27 +67,8 @@ fn put_fraction(t: u64, out: &mut [u8], at: usize) -> usize
     if t == 0 {
         return at;
     }
-    out[at] = 46;
-    put_stripped(t, out, at + 1)
-}
-
-fn put_two(a: u8, b: u8, out: &mut [u8], at: usize) -> usize
-    requires { at + 2 ≤ length out.old }
-    ensures { Put (a ∷ b ∷ []) at out.old out.new result }
-{
-    out[at] = a;
-    out[at + 1] = b;
-    at + 2
-}
-
-fn put_three(a: u8, b: u8, c: u8, out: &mut [u8], at: usize) -> usize
-    requires { at + 3 ≤ length out.old }
-    ensures { Put (a ∷ b ∷ c ∷ []) at out.old out.new result }
-{
-    out[at] = a;
-    out[at + 1] = b;
-    out[at + 2] = c;
-    at + 3
+    let m = put_all([b'.'], out, at);
+    put_stripped(t, out, m)
 }
 
 // Writes the power that the exponent's field e stands for.
@@ -86,10 +77,10 @@ fn put_power(e: u64, out: &mut [u8], at: usize) -> usize
     ensures { Put (power e) at out.old out.new result }
 {
     if e < 1023 {
-        let m = put_two(112, 45, out, at);
+        let m = put_all([b'p', b'-'], out, at);
         return decimal::put_number(1023 - e, out, m);
     }
-    let m = put_two(112, 43, out, at);
+    let m = put_all([b'p', b'+'], out, at);
     decimal::put_number(e - 1023, out, m)
 }
 
@@ -97,7 +88,7 @@ fn put_finite(lead: u8, t: u64, e: u64, out: &mut [u8], at: usize) -> usize
     requires { (lead < 2) × (e < 2047) × (at + 23 ≤ length out.old) }
     ensures { Put (number lead t e) at out.old out.new result }
 {
-    let m = put_three(48, 120, 48 + lead, out, at);
+    let m = put_all([b'0', b'x', b'0' + lead], out, at);
     let n = put_fraction(t, out, m);
     put_power(e, out, n)
 }
@@ -109,9 +100,9 @@ fn put_magnitude(x: u64, t: u64, out: &mut [u8], at: usize) -> usize
 {
     if x == 2047 {
         if t == 0 {
-            return put_three(105, 110, 102, out, at);
+            return put_all(*b"inf", out, at);
         }
-        return put_three(110, 97, 110, out, at);
+        return put_all(*b"nan", out, at);
     }
     if x == 0 {
         if t == 0 {
@@ -127,8 +118,7 @@ fn put_minus(s: bool, out: &mut [u8], at: usize) -> usize
     ensures { Put (minus s) at out.old out.new result }
 {
     if s {
-        out[at] = 45;
-        return at + 1;
+        return put_all([b'-'], out, at);
     }
     at
 }
@@ -138,11 +128,7 @@ fn put_minus(s: bool, out: &mut [u8], at: usize) -> usize
 pub fn put_float(b: u64, out: &mut [u8], at: usize) -> usize
     ensures { Put (given (nat_le (at + 24) (length out.old)) (hex_text b)) at out.old out.new result }
 {
-    let n = out.len();
-    if n < 24 {
-        return at;
-    }
-    if n - 24 < at {
+    if !decimal::holds(out.len(), at, 24) {
         return at;
     }
     let m = put_minus(b >= 0x8000_0000_0000_0000, out, at);

@@ -40,7 +40,7 @@ fn put_line(kind: u64, b: u64, out: &mut [u8], at: usize) -> usize
     ensures { (Put (line kind b) at out.old out.new result) × (result ≤ at + 25) }
 {
     let m = put_value(kind, b, out, at);
-    out[m] = 10;
+    out[m] = b'\n';
     m + 1
 }
 
@@ -84,6 +84,6 @@ pub fn put_ends(first: u64, draws: u64, out: &mut [u8]) -> usize
     if out.len() < 42 {
         return 0;
     }
-    let m = put_sum(first, 0, 32, out, 0);
-    put_sum(first, draws, 10, out, m)
+    let m = put_sum(first, 0, b' ', out, 0);
+    put_sum(first, draws, b'\n', out, m)
 }

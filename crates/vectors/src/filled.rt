@@ -1,5 +1,8 @@
 // Fills of every kind on both engines, typed and by bytes, short ones and long ones: they are made in different ways.
+ghost use Rattle.std.specs.Prelude.{◌<◌};
+
 use crate::{decimal, hex, hex_half};
+use base::refusal::Refusal;
 use floats::patterns;
 use philox::x8::Philox4x32X8;
 use std::io::Stdout;
@@ -11,214 +14,197 @@ const FEW: usize = 64;
 const EMPTY: u64 = 0xcbf2_9ce4_8422_2325;
 
 fn digested(sum: u64, x: u64) -> u64 {
-    words::wrapping_mul(sum ^ x, 0x0100_0000_01b3)
+    (sum ^ x).wrapping_mul(0x0100_0000_01b3)
 }
 
-fn put_u64s(to: Stdout, draws: u64, out: &[u64]) {
+// An element of a fill: its bits as a word, and how it is written.
+trait Element: Copy {
+    fn bits(self) -> u64;
+
+    fn put(self, to: Stdout) {
+        hex(to, self.bits());
+    }
+}
+
+impl Element for u8 {
+    fn bits(self) -> u64 {
+        u64::from(self)
+    }
+}
+
+impl Element for u32 {
+    fn bits(self) -> u64 {
+        u64::from(self)
+    }
+
+    fn put(self, to: Stdout) {
+        hex_half(to, self);
+    }
+}
+
+impl Element for u64 {
+    fn bits(self) -> u64 {
+        self
+    }
+}
+
+impl Element for f32 {
+    fn bits(self) -> u64 {
+        u64::from(patterns::to_bits_f32(self))
+    }
+
+    fn put(self, to: Stdout) {
+        hex_half(to, patterns::to_bits_f32(self));
+    }
+}
+
+impl Element for f64 {
+    fn bits(self) -> u64 {
+        patterns::to_bits_f64(self)
+    }
+}
+
+fn put<T: Element>(to: Stdout, draws: u64, out: &[T]) {
     decimal(to, draws);
-    let mut sum = EMPTY;
-    for i in 0..out.len() {
-        let x = out[i];
-        sum = digested(sum, x);
-        if out.len() < FEW {
-            hex(to, x);
+    if out.len() < FEW {
+        for x in out {
+            x.put(to);
         }
     }
+    let sum = out.iter().fold(EMPTY, |sum, x| digested(sum, x.bits()));
     hex(to, sum);
 }
 
-fn put_u32s(to: Stdout, draws: u64, out: &[u32]) {
-    decimal(to, draws);
-    let mut sum = EMPTY;
-    for i in 0..out.len() {
-        let x = out[i];
-        sum = digested(sum, words::join(x, 0));
-        if out.len() < FEW {
-            hex_half(to, x);
-        }
+// An engine's fills. Each answers its draws and the generator after them.
+pub(crate) trait Fills: Copy {
+    fn u64s(self, out: &mut [u64]) -> (u64, Self);
+
+    fn u32s(self, out: &mut [u32]) -> (u64, Self);
+
+    fn f32s(self, out: &mut [f32]) -> (u64, Self);
+
+    fn f64s(self, out: &mut [f64]) -> (u64, Self);
+
+    fn normal_f32s(self, out: &mut [f32]) -> (u64, Self);
+
+    fn normal_f64s(self, out: &mut [f64]) -> (u64, Self);
+
+    fn bytes(self, kind: u64, out: &mut [u8]) -> Result<(u64, Self), Refusal>;
+}
+
+impl Fills for Xoshiro256ppX8 {
+    fn u64s(self, out: &mut [u64]) -> (u64, Self) {
+        let f = xoshiro_fills::typed::fill_u64(self, out);
+        (f.draws, f.rng)
     }
-    hex(to, sum);
-}
 
-fn put_f32s(to: Stdout, draws: u64, out: &[f32]) {
-    decimal(to, draws);
-    let mut sum = EMPTY;
-    for i in 0..out.len() {
-        let x = patterns::to_bits_f32(out[i]);
-        sum = digested(sum, words::join(x, 0));
-        if out.len() < FEW {
-            hex_half(to, x);
-        }
+    fn u32s(self, out: &mut [u32]) -> (u64, Self) {
+        let f = xoshiro_fills::typed::fill_u32(self, out);
+        (f.draws, f.rng)
     }
-    hex(to, sum);
-}
 
-fn put_f64s(to: Stdout, draws: u64, out: &[f64]) {
-    decimal(to, draws);
-    let mut sum = EMPTY;
-    for i in 0..out.len() {
-        let x = patterns::to_bits_f64(out[i]);
-        sum = digested(sum, x);
-        if out.len() < FEW {
-            hex(to, x);
-        }
+    fn f32s(self, out: &mut [f32]) -> (u64, Self) {
+        let f = xoshiro_fills::typed::fill_f32(self, out);
+        (f.draws, f.rng)
     }
-    hex(to, sum);
-}
 
-fn put_bytes(to: Stdout, draws: u64, out: &[u8]) {
-    decimal(to, draws);
-    let mut sum = EMPTY;
-    for i in 0..out.len() {
-        sum = digested(sum, wide(out[i]));
+    fn f64s(self, out: &mut [f64]) -> (u64, Self) {
+        let f = xoshiro_fills::typed::fill_f64(self, out);
+        (f.draws, f.rng)
     }
-    hex(to, sum);
-}
 
-fn wide(x: u8) -> u64 {
-    x as u64
-}
-
-// ---- xoshiro256++
-fn xoshiro_u64(to: Stdout, g: Xoshiro256ppX8, out: &mut [u64]) -> Xoshiro256ppX8 {
-    let f = xoshiro_fills::typed::fill_u64(g, out);
-    put_u64s(to, f.draws, out);
-    f.rng
-}
-
-fn xoshiro_u32(to: Stdout, g: Xoshiro256ppX8, out: &mut [u32]) -> Xoshiro256ppX8 {
-    let f = xoshiro_fills::typed::fill_u32(g, out);
-    put_u32s(to, f.draws, out);
-    f.rng
-}
-
-fn xoshiro_f32(to: Stdout, g: Xoshiro256ppX8, out: &mut [f32]) -> Xoshiro256ppX8 {
-    let f = xoshiro_fills::typed::fill_f32(g, out);
-    put_f32s(to, f.draws, out);
-    f.rng
-}
-
-fn xoshiro_f64(to: Stdout, g: Xoshiro256ppX8, out: &mut [f64]) -> Xoshiro256ppX8 {
-    let f = xoshiro_fills::typed::fill_f64(g, out);
-    put_f64s(to, f.draws, out);
-    f.rng
-}
-
-fn xoshiro_normal_f32(to: Stdout, g: Xoshiro256ppX8, out: &mut [f32]) -> Xoshiro256ppX8 {
-    let f = xoshiro_fills::typed::fill_normal_f32(g, out);
-    put_f32s(to, f.draws, out);
-    f.rng
-}
-
-fn xoshiro_normal_f64(to: Stdout, g: Xoshiro256ppX8, out: &mut [f64]) -> Xoshiro256ppX8 {
-    let f = xoshiro_fills::typed::fill_normal_f64(g, out);
-    put_f64s(to, f.draws, out);
-    f.rng
-}
-
-fn xoshiro_kind(to: Stdout, g: Xoshiro256ppX8, kind: u64, out: &mut [u8]) -> Xoshiro256ppX8 {
-    let f = xoshiro_fills::bytes::fill_bytes(g, kind, out);
-    put_bytes(to, f.draws, out);
-    f.rng
-}
-
-fn xoshiro_few(to: Stdout, g: Xoshiro256ppX8) -> Xoshiro256ppX8 {
-    let a = xoshiro_u64(to, g, &mut [0u64; 21]);
-    let b = xoshiro_u32(to, a, &mut [0u32; 21]);
-    let c = xoshiro_f32(to, b, &mut [0.0f32; 21]);
-    let d = xoshiro_f64(to, c, &mut [0.0f64; 21]);
-    let e = xoshiro_normal_f32(to, d, &mut [0.0f32; 21]);
-    xoshiro_normal_f64(to, e, &mut [0.0f64; 21])
-}
-
-fn xoshiro_many(to: Stdout, g: Xoshiro256ppX8) -> Xoshiro256ppX8 {
-    let a = xoshiro_u64(to, g, &mut [0u64; 1100]);
-    let b = xoshiro_u32(to, a, &mut [0u32; 1100]);
-    let c = xoshiro_f32(to, b, &mut [0.0f32; 1100]);
-    let d = xoshiro_f64(to, c, &mut [0.0f64; 1100]);
-    let e = xoshiro_normal_f32(to, d, &mut [0.0f32; 1100]);
-    xoshiro_normal_f64(to, e, &mut [0.0f64; 1100])
-}
-
-pub(crate) fn xoshiro(to: Stdout, start: Xoshiro256ppX8) -> Xoshiro256ppX8 {
-    let few = xoshiro_few(to, start);
-    let mut rng = xoshiro_many(to, few);
-    for kind in 1u64..7 {
-        let short = xoshiro_kind(to, rng, kind, &mut [0u8; 168]);
-        let long = xoshiro_kind(to, short, kind, &mut [0u8; 8800]);
-        rng = long;
+    fn normal_f32s(self, out: &mut [f32]) -> (u64, Self) {
+        let f = xoshiro_fills::typed::fill_normal_f32(self, out);
+        (f.draws, f.rng)
     }
+
+    fn normal_f64s(self, out: &mut [f64]) -> (u64, Self) {
+        let f = xoshiro_fills::typed::fill_normal_f64(self, out);
+        (f.draws, f.rng)
+    }
+
+    fn bytes(self, kind: u64, out: &mut [u8]) -> Result<(u64, Self), Refusal> {
+        let f = xoshiro_fills::bytes::fill_bytes(self, kind, out)?;
+        Ok((f.draws, f.rng))
+    }
+}
+
+impl Fills for Philox4x32X8 {
+    fn u64s(self, out: &mut [u64]) -> (u64, Self) {
+        let f = philox_fills::typed::fill_u64(self, out);
+        (f.draws, f.rng)
+    }
+
+    fn u32s(self, out: &mut [u32]) -> (u64, Self) {
+        let f = philox_fills::typed::fill_u32(self, out);
+        (f.draws, f.rng)
+    }
+
+    fn f32s(self, out: &mut [f32]) -> (u64, Self) {
+        let f = philox_fills::typed::fill_f32(self, out);
+        (f.draws, f.rng)
+    }
+
+    fn f64s(self, out: &mut [f64]) -> (u64, Self) {
+        let f = philox_fills::typed::fill_f64(self, out);
+        (f.draws, f.rng)
+    }
+
+    fn normal_f32s(self, out: &mut [f32]) -> (u64, Self) {
+        let f = philox_fills::typed::fill_normal_f32(self, out);
+        (f.draws, f.rng)
+    }
+
+    fn normal_f64s(self, out: &mut [f64]) -> (u64, Self) {
+        let f = philox_fills::typed::fill_normal_f64(self, out);
+        (f.draws, f.rng)
+    }
+
+    fn bytes(self, kind: u64, out: &mut [u8]) -> Result<(u64, Self), Refusal> {
+        let f = philox_fills::bytes::fill_bytes(self, kind, out)?;
+        Ok((f.draws, f.rng))
+    }
+}
+
+// A fill of `out` from `g`, written; the generator after it.
+fn written<G, T: Element, F: FnOnce(G, &mut [T]) -> (u64, G)>(
+    to: Stdout,
+    g: G,
+    out: &mut [T],
+    fill: F,
+) -> G
+    requires { F.IsAlwaysCallable fill }
+{
+    let (draws, rng) = fill(g, out);
+    put(to, draws, out);
     rng
 }
 
-// ---- Philox4x32-10
-fn philox_u64(to: Stdout, g: Philox4x32X8, out: &mut [u64]) -> Philox4x32X8 {
-    let f = philox_fills::typed::fill_u64(g, out);
-    put_u64s(to, f.draws, out);
-    f.rng
+// A typed fill of `N` elements of each kind.
+fn typed<G: Fills, const N: usize>(to: Stdout, g: G) -> G
+    requires { N < 2000 }
+{
+    let g = written(to, g, &mut [0u64; N], G::u64s);
+    let g = written(to, g, &mut [0u32; N], G::u32s);
+    let g = written(to, g, &mut [0.0f32; N], G::f32s);
+    let g = written(to, g, &mut [0.0f64; N], G::f64s);
+    let g = written(to, g, &mut [0.0f32; N], G::normal_f32s);
+    written(to, g, &mut [0.0f64; N], G::normal_f64s)
 }
 
-fn philox_u32(to: Stdout, g: Philox4x32X8, out: &mut [u32]) -> Philox4x32X8 {
-    let f = philox_fills::typed::fill_u32(g, out);
-    put_u32s(to, f.draws, out);
-    f.rng
+// A byte fill.
+fn bytes<G: Fills>(to: Stdout, g: G, kind: u64, out: &mut [u8]) -> Result<G, Refusal> {
+    let (draws, rng) = g.bytes(kind, out)?;
+    put(to, draws, out);
+    Ok(rng)
 }
 
-fn philox_f32(to: Stdout, g: Philox4x32X8, out: &mut [f32]) -> Philox4x32X8 {
-    let f = philox_fills::typed::fill_f32(g, out);
-    put_f32s(to, f.draws, out);
-    f.rng
-}
-
-fn philox_f64(to: Stdout, g: Philox4x32X8, out: &mut [f64]) -> Philox4x32X8 {
-    let f = philox_fills::typed::fill_f64(g, out);
-    put_f64s(to, f.draws, out);
-    f.rng
-}
-
-fn philox_normal_f32(to: Stdout, g: Philox4x32X8, out: &mut [f32]) -> Philox4x32X8 {
-    let f = philox_fills::typed::fill_normal_f32(g, out);
-    put_f32s(to, f.draws, out);
-    f.rng
-}
-
-fn philox_normal_f64(to: Stdout, g: Philox4x32X8, out: &mut [f64]) -> Philox4x32X8 {
-    let f = philox_fills::typed::fill_normal_f64(g, out);
-    put_f64s(to, f.draws, out);
-    f.rng
-}
-
-fn philox_kind(to: Stdout, g: Philox4x32X8, kind: u64, out: &mut [u8]) -> Philox4x32X8 {
-    let f = philox_fills::bytes::fill_bytes(g, kind, out);
-    put_bytes(to, f.draws, out);
-    f.rng
-}
-
-fn philox_few(to: Stdout, g: Philox4x32X8) -> Philox4x32X8 {
-    let a = philox_u64(to, g, &mut [0u64; 21]);
-    let b = philox_u32(to, a, &mut [0u32; 21]);
-    let c = philox_f32(to, b, &mut [0.0f32; 21]);
-    let d = philox_f64(to, c, &mut [0.0f64; 21]);
-    let e = philox_normal_f32(to, d, &mut [0.0f32; 21]);
-    philox_normal_f64(to, e, &mut [0.0f64; 21])
-}
-
-fn philox_many(to: Stdout, g: Philox4x32X8) -> Philox4x32X8 {
-    let a = philox_u64(to, g, &mut [0u64; 1100]);
-    let b = philox_u32(to, a, &mut [0u32; 1100]);
-    let c = philox_f32(to, b, &mut [0.0f32; 1100]);
-    let d = philox_f64(to, c, &mut [0.0f64; 1100]);
-    let e = philox_normal_f32(to, d, &mut [0.0f32; 1100]);
-    philox_normal_f64(to, e, &mut [0.0f64; 1100])
-}
-
-pub(crate) fn philox(to: Stdout, start: Philox4x32X8) -> Philox4x32X8 {
-    let few = philox_few(to, start);
-    let mut rng = philox_many(to, few);
+pub(crate) fn each<G: Fills>(to: Stdout, start: G) -> Result<G, Refusal> {
+    let few = typed::<G, 21>(to, start);
+    let mut rng = typed::<G, 1100>(to, few);
     for kind in 1u64..7 {
-        let short = philox_kind(to, rng, kind, &mut [0u8; 168]);
-        let long = philox_kind(to, short, kind, &mut [0u8; 8800]);
-        rng = long;
+        let short = bytes(to, rng, kind, &mut [0u8; 168])?;
+        rng = bytes(to, short, kind, &mut [0u8; 8800])?;
     }
-    rng
+    Ok(rng)
 }

@@ -5,6 +5,7 @@ ghost use Rattle.std.specs.Prelude.{◌≡◌, ◌+◌, ◌-◌, ◌*◌, ◌/�
 ghost use Rattle.words.specs.Words.{rotl as rotated};
 
 // `x` rotated to the left by `k` bits. The amount counts modulo 64, so every `k` is allowed.
+// It stands in place of `rotate_left`, since the scope document names this helper.
 pub fn rotl(x: u64, k: u32) -> u64
     ensures { result ≡ rotated (k % 64) x }
 {
@@ -13,6 +14,7 @@ pub fn rotl(x: u64, k: u32) -> u64
 }
 
 // a * b modulo 2^64, by halves of 32 bits: the product of the upper halves has no part below 2^64.
+// It stands in place of std's `wrapping_mul`, since the scope document names this helper.
 pub fn wrapping_mul(a: u64, b: u64) -> u64
     ensures { result ≡ a * b % 2 ^ 64 }
 {
@@ -20,11 +22,11 @@ pub fn wrapping_mul(a: u64, b: u64) -> u64
     let a1 = a >> 32;
     let b0 = b & 0xffff_ffff;
     let b1 = b >> 32;
-    let mid = std::num::wrapping_add_u64(a1 * b0, a0 * b1);
-    std::num::wrapping_add_u64(mid << 32, a0 * b0)
+    let mid = (a1 * b0).wrapping_add(a0 * b1);
+    (mid << 32).wrapping_add(a0 * b0)
 }
 
-// The low half of a word.
+// The low half of a word. A mask comes first, since a cast may not lose bits.
 pub fn low(x: u64) -> u32
     ensures { result ≡ x % 2 ^ 32 }
 {
@@ -42,25 +44,19 @@ pub fn high(x: u64) -> u32
 pub fn join(lo: u32, hi: u32) -> u64
     ensures { result ≡ lo + 2 ^ 32 * hi }
 {
-    (lo as u64) | (hi as u64) << 32
+    u64::from(lo) | u64::from(hi) << 32
 }
 
 // The whole product of two halves.
 pub fn product(a: u32, b: u32) -> u64
     ensures { result ≡ a * b }
 {
-    (a as u64) * (b as u64)
+    u64::from(a) * u64::from(b)
 }
 
 // What there is from `at` on of `len`, places of a slice or bits, at most `most`.
 pub fn room(len: usize, at: usize, most: usize) -> usize
     ensures { result ≡ min (len - at) most }
 {
-    if len <= at {
-        return 0;
-    }
-    if len - at < most {
-        return len - at;
-    }
-    most
+    len.saturating_sub(at).min(most)
 }

@@ -5,7 +5,7 @@ ghost use Rattle.base.specs.Engine.{DrawnAt};
 ghost use Rattle.xoshiro.specs.x8.Calls.{engine};
 
 use crate::x8::Xoshiro256ppX8;
-use slices::u64s;
+use slices::put;
 
 // `m` draws, or as many as `out` has room for, their words one after another in the first places.
 pub fn draw_many(g: Xoshiro256ppX8, out: &mut [u64], m: usize) -> Xoshiro256ppX8
@@ -16,7 +16,7 @@ pub fn draw_many(g: Xoshiro256ppX8, out: &mut [u64], m: usize) -> Xoshiro256ppX8
     for j in 0..n {
         let d = rng.next_u64x8();
         let w = d.words;
-        u64s::put_u64(out, j * 8, w);
+        put::put(out, j * 8, w);
         rng = d.rng;
     }
     rng

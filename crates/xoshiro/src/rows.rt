@@ -1,5 +1,6 @@
 // One step of eight xoshiro256++ lanes, on four rows of eight words: row k holds word k of each lane's state, and lane i is column i.
-// (The Rust's `add`, `xor`, `shl` and `rotl` on rows, and `Xoshiro256ppX8::step`.)
+// (The Rust's `add`, `xor`, `shl` and `rotl` on rows, and `Xoshiro256ppX8::step`.) The rows go in and out by value, and a step changes one row
+// as a whole at a time; sums wrap by std's function for it: the scope document names these forms.
 ghost use Rattle.std.specs.Prelude.{◌≡◌, ◌%◌};
 ghost use Rattle.xoshiro.specs.rows.Rows.{sums, xors, shls, rotls};
 ghost use Rattle.xoshiro.specs.rows.Lanes.{outputs, stepped};
@@ -7,21 +8,13 @@ ghost use Rattle.xoshiro.specs.rows.Lanes.{outputs, stepped};
 fn add(a: [u64; 8], b: [u64; 8]) -> [u64; 8]
     ensures { result ≡ sums a b }
 {
-    let mut out = [0u64; 8];
-    for i in 0..8 {
-        out[i] = std::num::wrapping_add_u64(a[i], b[i]);
-    }
-    out
+    std::array::from_fn(|i| std::num::wrapping_add_u64(a[i], b[i]))
 }
 
 fn xor(a: [u64; 8], b: [u64; 8]) -> [u64; 8]
     ensures { result ≡ xors a b }
 {
-    let mut out = [0u64; 8];
-    for i in 0..8 {
-        out[i] = a[i] ^ b[i];
-    }
-    out
+    std::array::from_fn(|i| a[i] ^ b[i])
 }
 
 // The amount counts modulo 64, as in `words::rotl`.
@@ -29,21 +22,13 @@ fn shl(a: [u64; 8], k: u32) -> [u64; 8]
     ensures { result ≡ shls (k % 64) a }
 {
     let n = k % 64;
-    let mut out = [0u64; 8];
-    for i in 0..8 {
-        out[i] = a[i] << n;
-    }
-    out
+    a.map(|word| word << n)
 }
 
 fn rotl(a: [u64; 8], k: u32) -> [u64; 8]
     ensures { result ≡ rotls (k % 64) a }
 {
-    let mut out = [0u64; 8];
-    for i in 0..8 {
-        out[i] = words::rotl(a[i], k);
-    }
-    out
+    a.map(|word| words::rotl(word, k))
 }
 
 // The words that one step of all eight lanes returns.

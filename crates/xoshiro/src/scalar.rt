@@ -1,15 +1,17 @@
 // Scalar xoshiro256++ (Xoshiro256pp of the Rust's xoshiro.rs).
 ghost use Rattle.std.specs.Prelude.{◌≡◌, ℕ, ◌*◌, ◌/◌, ◌%◌, ◌^◌, ◌<◌, [], ◌∷◌};
 ghost use Rattle.base.specs.Quad.{quad_of, list_of};
+ghost use Rattle.base.specs.Refusal.{answer_of};
 ghost use Rattle.xoshiro_steps.specs.Xoshiro256pp.{step, plus, highest_below, highest_of, all_zero, jump_poly, long_jump_poly};
 ghost use Rattle.xoshiro_steps.specs.Claims.{Words};
 ghost use Rattle.xoshiro.specs.powers.Powers.{Powers};
-ghost use Rattle.xoshiro.specs.scalar.Calls.{state_of, checked, seeded_by, drawn, jumped_by, jumps_made, steps_made};
+ghost use Rattle.xoshiro.specs.scalar.Calls.{state_of, blank, checked, seeded_by, drawn, jumped_by, jumps_made, steps_made};
 
 use crate::powers;
 use crate::splitmix64::SplitMix64;
+use base::refusal::Refusal;
 
-// The jump polynomials, word 0 first.
+// The jump polynomials, word 0 first: two arrays of four words, walked bit by bit, as the scope document has them.
 const JUMP: [u64; 4] = [
     0x180e_c6d3_3cfd_0aba,
     0xd5a6_1266_f0c9_392c,
@@ -30,17 +32,10 @@ pub struct Xoshiro256pp {
     pub s: [u64; 4],
 }
 
-// A word, and the generator after it.
+// A word, and the generator after it. (A record: the scope document's form for a pair.)
 #[derive(Clone, Copy)]
 pub struct Draw {
     pub word: u64,
-    pub rng: Xoshiro256pp,
-}
-
-// A generator; or the number of a refusal and a generator of zero bits.
-#[derive(Clone, Copy)]
-pub struct Answer {
-    pub refusal: u64,
     pub rng: Xoshiro256pp,
 }
 
@@ -73,7 +68,7 @@ fn xored(a: [u64; 4], b: [u64; 4]) -> [u64; 4]
 pub fn is_zero(s: [u64; 4]) -> bool
     ensures { result ≡ all_zero (quad_of s) }
 {
-    (s[0] == 0) & (s[1] == 0) & (s[2] == 0) & (s[3] == 0)
+    s == [0; 4]
 }
 
 // Bit `b % 64` of a word.
@@ -97,16 +92,14 @@ fn highest_bit(word: u64) -> usize
 fn highest(poly: [u64; 4]) -> usize
     ensures { (result ≡ highest_of poly) × (result < 256) }
 {
-    let mut i: usize = 4;
-    while 0 < i {
-        i -= 1;
-        let word = poly[i];
-        let b = highest_bit(word);
-        if bit(word, b) != 0 {
-            return 64 * i + b;
+    let mut top = 0;
+    for (i, word) in poly.iter().enumerate() {
+        let b = highest_bit(*word);
+        if bit(*word, b) != 0 {
+            top = 64 * i + b;
         }
     }
-    0
+    top
 }
 
 // The sum of the states at the set bits of `poly`, word 0 first, bit 0 of each word first; a step after each bit below `top`, the highest
@@ -117,6 +110,7 @@ fn apply_jump(rng: Xoshiro256pp, poly: [u64; 4], top: usize) -> Jump
 {
     let mut acc = [0u64; 4];
     let mut at = rng.s;
+    // what a call returns goes into an array by way of a local: the proof does not close where the array takes it straight
     for i in 0..top / 64 + 1 {
         let word = poly[i];
         // the bits of this word below the highest set one
@@ -167,28 +161,21 @@ fn leaps(rng: Xoshiro256pp, n: u64, table: &[u64; 256]) -> Xoshiro256pp
     for j in 0..64 {
         if bit(n, j) != 0 {
             let poly = powers::entry(table, j);
-            let next = apply_jump(at, poly, highest(poly));
-            at = next.rng;
+            at = apply_jump(at, poly, highest(poly)).rng;
         }
     }
     at
 }
 
 impl Xoshiro256pp {
-    // The generator with this state. Refused with 3 where all four words are zero.
-    pub fn from_state(s: [u64; 4]) -> Answer
-        ensures { result ≡ checked s }
+    // The generator with this state. Refused where all four words are zero.
+    pub fn from_state(s: [u64; 4]) -> Result<Self, Refusal>
+        ensures { answer_of blank result ≡ checked s }
     {
         if is_zero(s) {
-            return Answer {
-                refusal: 3,
-                rng: Xoshiro256pp { s: [0; 4] },
-            };
+            return Err(Refusal::ZeroState);
         }
-        Answer {
-            refusal: 0,
-            rng: Xoshiro256pp { s },
-        }
+        Ok(Self { s })
     }
 
     // Four words drawn from SplitMix64. The guard keeps the state valid, should all of them be zero.
@@ -220,10 +207,9 @@ impl Xoshiro256pp {
         let s = self.s;
         let sum = std::num::wrapping_add_u64(s[0], s[3]);
         let word = std::num::wrapping_add_u64(words::rotl(sum, 23), s[0]);
-        let next = stepped(s);
         Draw {
             word,
-            rng: Xoshiro256pp { s: next },
+            rng: Xoshiro256pp { s: stepped(s) },
         }
     }
 

@@ -8,7 +8,7 @@ pub struct SplitMix64 {
     pub state: u64,
 }
 
-// A word, and the generator after it.
+// A word, and the generator after it. (A record: the scope document's form for a pair.)
 #[derive(Clone, Copy)]
 pub struct Draw {
     pub word: u64,

@@ -1,13 +1,17 @@
 // Eight xoshiro256++ streams advanced together (Xoshiro256ppX8 of the Rust's xoshiro.rs).
-ghost use Rattle.std.specs.Prelude.{◌≡◌};
+ghost use Rattle.std.specs.Prelude.{◌≡◌, ◌<◌};
 ghost use Rattle.base.specs.Every.{every};
-ghost use Rattle.xoshiro.specs.x8.Lanes.{rows_in, of_rows};
-ghost use Rattle.xoshiro.specs.x8.Calls.{is_valid, of_lanes, from_lanes, lane_call, drawn, skipped, placed, moved_blocks};
+ghost use Rattle.base.specs.Refusal.{answer_of};
+ghost use Rattle.xoshiro.specs.scalar.Calls.{generator, blank};
+ghost use Rattle.xoshiro.specs.x8.Lanes.{rows_in, of_rows, lane_of};
+ghost use Rattle.xoshiro.specs.x8.Calls.{is_valid, of_lanes, blank8, from_lanes, lane_call, drawn, skipped, placed, moved_blocks};
 
-use crate::scalar::{Answer, Xoshiro256pp};
+use crate::scalar::Xoshiro256pp;
 use crate::{rows, scalar};
+use base::refusal::Refusal;
 
-// Four rows of eight words: row k holds word k of each lane's state, and lane i is column i.
+// Four rows of eight words: row k holds word k of each lane's state, and lane i is column i. (Four flat rows, the scope document's form round
+// the array of rows that the step takes.)
 #[derive(Clone, Copy)]
 pub struct Xoshiro256ppX8 {
     pub s0: [u64; 8],
@@ -16,7 +20,7 @@ pub struct Xoshiro256ppX8 {
     pub s3: [u64; 8],
 }
 
-// Eight words, word i from lane i, and the generator after them.
+// Eight words, word i from lane i, and the generator after them. (A record, as the next: the scope document's form for a pair.)
 #[derive(Clone, Copy)]
 pub struct Draw {
     pub words: [u64; 8],
@@ -30,15 +34,7 @@ pub struct Placed {
     pub jumps: u64,
 }
 
-// A generator; or the number of a refusal and a generator of zero bits. (In this order: four words that are moved at once are then words
-// of one row.)
-#[derive(Clone, Copy)]
-pub struct LanesAnswer {
-    pub rng: Xoshiro256ppX8,
-    pub refusal: u64,
-}
-
-// The rows as the step takes them, and back.
+// The rows as the step takes them, and back. (Two functions, and no `From`: a conversion's contract would be a law beside it.)
 fn rows_of(g: Xoshiro256ppX8) -> [[u64; 8]; 4]
     ensures { result ≡ rows_in g }
 {
@@ -63,32 +59,29 @@ fn of_rows(s: [[u64; 8]; 4]) -> Xoshiro256ppX8
 fn of_lanes(lanes: [Xoshiro256pp; 8]) -> Xoshiro256ppX8
     ensures { result ≡ of_lanes lanes }
 {
-    let mut s0 = [0u64; 8];
-    let mut s1 = [0u64; 8];
-    let mut s2 = [0u64; 8];
-    let mut s3 = [0u64; 8];
-    for i in 0..8 {
-        let lane = lanes[i];
-        let s = lane.s;
-        s0[i] = s[0];
-        s1[i] = s[1];
-        s2[i] = s[2];
-        s3[i] = s[3];
+    Xoshiro256ppX8 {
+        s0: lanes.map(|lane| lane.s[0]),
+        s1: lanes.map(|lane| lane.s[1]),
+        s2: lanes.map(|lane| lane.s[2]),
+        s3: lanes.map(|lane| lane.s[3]),
     }
-    Xoshiro256ppX8 { s0, s1, s2, s3 }
 }
 
 // Whether no lane is four zero words.
 fn all_valid(lanes: [Xoshiro256pp; 8]) -> bool
     ensures { result ≡ every is_valid lanes }
 {
-    let mut ok = true;
-    for i in 0..8 {
-        let lane = lanes[i];
-        let s = lane.s;
-        ok = ok & !scalar::is_zero(s);
+    lanes.iter().all(|lane| !scalar::is_zero(lane.s))
+}
+
+// Lane `i` of a generator.
+fn lane_at(g: Xoshiro256ppX8, i: usize) -> Xoshiro256pp
+    requires { i < 8 }
+    ensures { result ≡ generator (lane_of g i) }
+{
+    Xoshiro256pp {
+        s: [g.s0[i], g.s1[i], g.s2[i], g.s3[i]],
     }
-    ok
 }
 
 impl Xoshiro256ppX8 {
@@ -109,50 +102,33 @@ impl Xoshiro256ppX8 {
         let jumps = words::wrapping_mul(8, block);
         let mut at = Xoshiro256pp::from_seed(seed).jumps(jumps);
         let mut lanes = [at; 8];
-        for i in 0..7 {
-            let next = at.jump();
-            at = next.rng;
-            lanes[i + 1] = at;
+        // each lane comes from the one before it: a closure that changes its generator is no plainer
+        for i in 1..8 {
+            at = at.jump().rng;
+            lanes[i] = at;
         }
         let rng = of_lanes(lanes);
         Placed { rng, jumps }
     }
 
-    // The generator with these lanes. Refused with 3 where a lane is four zero words.
-    pub fn from_lanes(lanes: [Xoshiro256pp; 8]) -> LanesAnswer
-        ensures { result ≡ from_lanes lanes }
+    // The generator with these lanes. Refused where a lane is four zero words.
+    pub fn from_lanes(lanes: [Xoshiro256pp; 8]) -> Result<Self, Refusal>
+        ensures { answer_of blank8 result ≡ from_lanes lanes }
     {
         if all_valid(lanes) {
-            let rng = of_lanes(lanes);
-            return LanesAnswer { refusal: 0, rng };
+            return Ok(of_lanes(lanes));
         }
-        let rng = Xoshiro256ppX8 {
-            s0: [0; 8],
-            s1: [0; 8],
-            s2: [0; 8],
-            s3: [0; 8],
-        };
-        LanesAnswer { refusal: 3, rng }
+        Err(Refusal::ZeroState)
     }
 
-    // Lane `i` as a scalar generator. Refused with 6 where `i` is 8 or more.
-    pub fn lane(self, i: usize) -> Answer
-        ensures { result ≡ lane_call self i }
+    // Lane `i` as a scalar generator. Refused where `i` is 8 or more.
+    pub fn lane(self, i: usize) -> Result<Xoshiro256pp, Refusal>
+        ensures { answer_of blank result ≡ lane_call self i }
     {
         if i < 8 {
-            let s0 = self.s0;
-            let s1 = self.s1;
-            let s2 = self.s2;
-            let s3 = self.s3;
-            let rng = Xoshiro256pp {
-                s: [s0[i], s1[i], s2[i], s3[i]],
-            };
-            return Answer { refusal: 0, rng };
+            return Ok(lane_at(self, i));
         }
-        Answer {
-            refusal: 6,
-            rng: Xoshiro256pp { s: [0; 4] },
-        }
+        Err(Refusal::NoSuchLane)
     }
 
     // 8 * n modulo 2^64 jumps in each lane.
@@ -160,12 +136,7 @@ impl Xoshiro256ppX8 {
         ensures { result ≡ moved_blocks n self }
     {
         let jumps = words::wrapping_mul(8, n);
-        let none = Xoshiro256pp { s: [0; 4] };
-        let mut lanes = [none; 8];
-        for i in 0..8 {
-            lanes[i] = self.lane(i).rng.jumps(jumps);
-        }
-        let rng = of_lanes(lanes);
+        let rng = of_lanes(std::array::from_fn(|i| lane_at(self, i).jumps(jumps)));
         Placed { rng, jumps }
     }
 
@@ -173,12 +144,7 @@ impl Xoshiro256ppX8 {
     pub fn skip(self, n: u64) -> Self
         ensures { result ≡ skipped n self }
     {
-        let none = Xoshiro256pp { s: [0; 4] };
-        let mut lanes = [none; 8];
-        for i in 0..8 {
-            lanes[i] = self.lane(i).rng.steps(n);
-        }
-        of_lanes(lanes)
+        of_lanes(std::array::from_fn(|i| lane_at(self, i).steps(n)))
     }
 
     // One draw: a step of all eight lanes.

@@ -6,7 +6,7 @@ ghost use Rattle.fills.specs.Kinds.{u64s};
 ghost use Rattle.xoshiro.specs.x8.Calls.{engine};
 
 use elements::groups;
-use slices::u64s;
+use slices::put;
 use xoshiro::draws;
 use xoshiro::x8::Xoshiro256ppX8;
 
@@ -26,7 +26,7 @@ pub fn fill_u64(g: Xoshiro256ppX8, out: &mut [u64]) -> Fill
     for j in 0..m {
         let d = rng.next_u64x8();
         let w = d.words;
-        u64s::put_u64(out, j * 8, w);
+        put::put(out, j * 8, w);
         rng = d.rng;
     }
     Fill {

@@ -2,5 +2,6 @@
 #![tactic(auto)]
 
 pub mod bytes;
+pub mod engine;
 pub mod fill_words;
 pub mod typed;

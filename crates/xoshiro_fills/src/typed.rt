@@ -4,100 +4,36 @@ ghost use Rattle.fills.specs.Fill.{Filled};
 ghost use Rattle.fills.specs.Kinds.{u32s, f32s, f64s, normal_f32s, normal_f64s, open01_f32s, open01_f64s};
 ghost use Rattle.xoshiro.specs.x8.Calls.{engine};
 
+use crate::engine::{ahead, pairs, plain};
 pub use crate::fill_words::{Fill, fill_buffer, fill_u64};
-use elements::{f32s, f64s, groups, open01_f32s, open01_f64s, u32s};
-use normals::{normal_f32s, normal_f64s};
+use elements::f32s::F32s;
+use elements::f64s::F64s;
+use elements::open01_f32s::Open01F32s;
+use elements::open01_f64s::Open01F64s;
+use elements::u32s::U32s;
+use normals::normal_f32s::NormalF32s;
+use normals::normal_f64s::NormalF64s;
 use xoshiro::x8::Xoshiro256ppX8;
 
 // Kind 2: their low halves, then their high halves.
 pub fn fill_u32(g: Xoshiro256ppX8, out: &mut [u32]) -> Fill
     ensures { Filled engine u32s g out.old out.new result.draws result.rng }
 {
-    let m = groups::groups_in(out.len(), 16);
-    let mut rng = g;
-    for j in 0..m {
-        let d = rng.next_u64x8();
-        let w = d.words;
-        u32s::put_group(out, j * 16, w);
-        rng = d.rng;
-    }
-    Fill {
-        rng,
-        draws: m as u64,
-    }
+    plain(g, U32s, out)
 }
 
 // Kind 3: the units of kind 2.
 pub fn fill_f32(g: Xoshiro256ppX8, out: &mut [f32]) -> Fill
     ensures { Filled engine f32s g out.old out.new result.draws result.rng }
 {
-    let m = groups::groups_in(out.len(), 16);
-    let mut rng = g;
-    for j in 0..m {
-        let d = rng.next_u64x8();
-        let w = d.words;
-        f32s::put_group(out, j * 16, w);
-        rng = d.rng;
-    }
-    Fill {
-        rng,
-        draws: m as u64,
-    }
+    plain(g, F32s, out)
 }
 
 // Kind 4: the units of the words.
 pub fn fill_f64(g: Xoshiro256ppX8, out: &mut [f64]) -> Fill
     ensures { Filled engine f64s g out.old out.new result.draws result.rng }
 {
-    let m = groups::groups_in(out.len(), 8);
-    let mut rng = g;
-    for j in 0..m {
-        let d = rng.next_u64x8();
-        let w = d.words;
-        f64s::put_group(out, j * 8, w);
-        rng = d.rng;
-    }
-    Fill {
-        rng,
-        draws: m as u64,
-    }
-}
-
-// Kind 5, draw by draw.
-fn fill_normal_f32_plain(g: Xoshiro256ppX8, out: &mut [f32]) -> Fill
-    ensures { Filled engine normal_f32s g out.old out.new result.draws result.rng }
-{
-    let m = groups::groups_in(out.len(), 16);
-    let mut rng = g;
-    for j in 0..m {
-        let d = rng.next_u64x8();
-        let w = d.words;
-        normal_f32s::put_group(out, j * 16, w);
-        rng = d.rng;
-    }
-    Fill {
-        rng,
-        draws: m as u64,
-    }
-}
-
-// Kind 5, by way of a buffer of draws: 64 lanes at a time are faster than eight.
-fn fill_normal_f32_ahead(g: Xoshiro256ppX8, out: &mut [f32]) -> Fill
-    ensures { Filled engine normal_f32s g out.old out.new result.draws result.rng }
-{
-    let mut rng = g;
-    let mut draws: u64 = 0;
-    let mut at = 0;
-    let mut buf = [0u64; 128];
-    while at < out.len() {
-        let q = groups::groups_of(out.len(), at, 16, 16);
-        let f = fill_buffer(rng, &mut buf, q);
-        normal_f32s::map_normal_f32(out, at, &buf);
-        rng = f.rng;
-        draws += f.draws;
-        at += q * 16;
-    }
-    Fill { rng, draws }
+    plain(g, F64s, out)
 }
 
 // Kind 5: normals, from the halves of each word. A buffer is worth its while from 64 lanes on.
@@ -105,49 +41,9 @@ pub fn fill_normal_f32(g: Xoshiro256ppX8, out: &mut [f32]) -> Fill
     ensures { Filled engine normal_f32s g out.old out.new result.draws result.rng }
 {
     if out.len() < 128 {
-        return fill_normal_f32_plain(g, out);
+        return plain(g, NormalF32s, out);
     }
-    fill_normal_f32_ahead(g, out)
-}
-
-// Kind 6, draw by draw.
-fn fill_normal_f64_plain(g: Xoshiro256ppX8, out: &mut [f64]) -> Fill
-    ensures { Filled engine normal_f64s g out.old out.new result.draws result.rng }
-{
-    let m = groups::groups_in(out.len(), 16);
-    let mut rng = g;
-    for j in 0..m {
-        let d = rng.next_u64x8();
-        let a = d.words;
-        let mid = d.rng;
-        let e = mid.next_u64x8();
-        let b = e.words;
-        normal_f64s::put_group(out, j * 16, a, b);
-        rng = e.rng;
-    }
-    Fill {
-        rng,
-        draws: 2 * m as u64,
-    }
-}
-
-// Kind 6, by way of a buffer of draws: 32 lanes at a time are faster than eight.
-fn fill_normal_f64_ahead(g: Xoshiro256ppX8, out: &mut [f64]) -> Fill
-    ensures { Filled engine normal_f64s g out.old out.new result.draws result.rng }
-{
-    let mut rng = g;
-    let mut draws: u64 = 0;
-    let mut at = 0;
-    let mut buf = [0u64; 128];
-    while at < out.len() {
-        let q = groups::groups_of(out.len(), at, 16, 8);
-        let f = fill_buffer(rng, &mut buf, 2 * q);
-        normal_f64s::map_normal_f64(out, at, &buf);
-        rng = f.rng;
-        draws += f.draws;
-        at += q * 16;
-    }
-    Fill { rng, draws }
+    ahead(g, NormalF32s, out)
 }
 
 // Kind 6: normals, from the words of two draws. A buffer is worth its while from 32 lanes on.
@@ -155,43 +51,21 @@ pub fn fill_normal_f64(g: Xoshiro256ppX8, out: &mut [f64]) -> Fill
     ensures { Filled engine normal_f64s g out.old out.new result.draws result.rng }
 {
     if out.len() < 64 {
-        return fill_normal_f64_plain(g, out);
+        return pairs(g, NormalF64s, out);
     }
-    fill_normal_f64_ahead(g, out)
+    ahead(g, NormalF64s, out)
 }
 
 // Kind 7: the units that are never 0 of kind 2.
 pub fn fill_open01_f32(g: Xoshiro256ppX8, out: &mut [f32]) -> Fill
     ensures { Filled engine open01_f32s g out.old out.new result.draws result.rng }
 {
-    let m = groups::groups_in(out.len(), 16);
-    let mut rng = g;
-    for j in 0..m {
-        let d = rng.next_u64x8();
-        let w = d.words;
-        open01_f32s::put_group(out, j * 16, w);
-        rng = d.rng;
-    }
-    Fill {
-        rng,
-        draws: m as u64,
-    }
+    plain(g, Open01F32s, out)
 }
 
 // Kind 8: the units that are never 0 of the words.
 pub fn fill_open01_f64(g: Xoshiro256ppX8, out: &mut [f64]) -> Fill
     ensures { Filled engine open01_f64s g out.old out.new result.draws result.rng }
 {
-    let m = groups::groups_in(out.len(), 8);
-    let mut rng = g;
-    for j in 0..m {
-        let d = rng.next_u64x8();
-        let w = d.words;
-        open01_f64s::put_group(out, j * 8, w);
-        rng = d.rng;
-    }
-    Fill {
-        rng,
-        draws: m as u64,
-    }
+    plain(g, Open01F64s, out)
 }

@@ -10,6 +10,7 @@ use Rattle.fills.specs.Kinds.{normal_f64s}
 use Rattle.history.specs.host.Philox.{standing}
 use Rattle.history.specs.philox4x32.History.{Tally, start, one_draw, words_at, label_at}
 use Rattle.philox.specs.x8.Machine.{fresh}
+use Rattle.clients.specs.Refused.{number_in}
 use Rattle.clients.specs.declared.philox4x32.Outcome.{Outcome}
 
 -- the tally after a seek to block n and m draws
@@ -25,8 +26,8 @@ pub record Simulated (seed stream n kind : ℕ) (normals normals' : List Float) 
   -- the normals, from the stream's first words on
   pub normal : normals' ≡ table (length normals) (element normal_f64s (λ m. words_at (fresh seed stream) (iterate one_draw m start)))
   -- the bytes, from block n on; a refused fill leaves them as they were
-  pub refused : r.refusal ≡ refusal_of kind (length raw)
-  pub bytes : raw' ≡ unless r.refusal (bytes_written kind (λ m. words_at (fresh seed stream) (at_block n m)) (length raw)) raw
+  pub refused : number_in r.refusal ≡ refusal_of kind (length raw)
+  pub bytes : raw' ≡ unless (number_in r.refusal) (bytes_written kind (λ m. words_at (fresh seed stream) (at_block n m)) (length raw)) raw
   -- the last draw and its label, the draws since the seek, and the generator after them
   pub words : r.words ≡ words_at (fresh seed stream) (at_block n (d_bytes kind raw))
   pub label : r.label ≡ label_at (at_block n (d_bytes kind raw))

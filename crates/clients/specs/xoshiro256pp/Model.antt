@@ -10,6 +10,7 @@ use Rattle.xoshiro_steps.specs.Xoshiro256pp.{steps, jumps}
 use Rattle.xoshiro.specs.scalar.Seeded.{seeded}
 use Rattle.xoshiro.specs.x8.Calls.{block_jumps}
 use Rattle.xoshiro.specs.x8.Lanes.{lane_of}
+use Rattle.clients.specs.Refused.{number_in}
 use Rattle.clients.specs.declared.xoshiro256pp.Outcome.{Outcome}
 
 -- D after the units, and after the bytes; J after the move
@@ -27,9 +28,9 @@ pub record Simulated (seed block n kind : ℕ) (units units' : List Float) (raw 
   -- the units, from the seed's first words of the block on
   pub uniform : units' ≡ table (length units) (element f64s (λ m. words_at (seeded seed) m (block_jumps block)))
   -- the bytes, D and J further on; a refused fill leaves them as they were
-  pub refused : r.refusal ≡ refusal_of kind (length raw)
+  pub refused : number_in r.refusal ≡ refusal_of kind (length raw)
   pub bytes : raw'
-      ≡ unless r.refusal (bytes_written kind (λ m. words_at (seeded seed) (d_units units + m) (j_moved block n)) (length raw)) raw
+      ≡ unless (number_in r.refusal) (bytes_written kind (λ m. words_at (seeded seed) (d_units units + m) (j_moved block n)) (length raw)) raw
   -- the last draw, all draws, and where the lanes stand after them
   pub words : r.words ≡ words_at (seeded seed) (d_bytes units kind raw) (j_moved block n)
   pub draws : r.draws ≡ d_bytes units kind raw + 1

@@ -1,14 +1,18 @@
 -- A part made by a fill of the buffer's first bytes. Assumes nothing.
-use Rattle.std.proofs.Common.{◌≡◌, ℕ, zero, suc, ◌+◌, ◌-◌, ◌*◌, ◌%◌, ◌^◌, ◌≤◌, Bool, true, false, List, [], ◌∷◌, ◌++◌, length, take, drop, sym, refl, ap, ◌∙◌, zero-mul, arith, length-take-le}
+use Rattle.std.proofs.Common.{◌≡◌, ℕ, zero, suc, ◌+◌, ◌-◌, ◌*◌, ◌%◌, ◌^◌, ◌≤◌, Bool, true, false, List, [], ◌∷◌, ◌++◌, length, take, drop, sym, refl, ap, subst, ◌∙◌, zero-mul, arith, length-take-le}
 use native.Mathlib.Nat.{mul-mod_left}
+use Rattle.std.specs.Prelude.{Ok, Err, Result}
+use Rattle.std.specs.Result.{result_unwrap_or}
+use Rattle.base.specs.declared.refusal.Refusal.{Refusal}
 use lib.Seq.{length_front}
 use Rattle.base.specs.Engine.{words_from}
 use Rattle.base.specs.Iterate.{iterate}
 use Rattle.fills.specs.FillBytes.{refusal_of, bytes_written, bytes_draws, FilledBytes}
 use Rattle.fills.specs.Kinds.{is_kind}
 use Rattle.fills.proofs.kinds.Numbers.{accepted}
-use Rattle.delivery.specs.source.Source.{next_of, either}
+use Rattle.delivery.specs.source.Source.{next_of, either, answered}
 use Rattle.delivery.specs.declared.source.Source.{Source}
+use Rattle.delivery.specs.declared.source.SourceFill.{SourceFill}
 use Rattle.delivery.specs.parts.Delivery.{width_of, places_of, FilledPart}
 use Rattle.delivery.specs.declared.parts.Delivery.{Delivery}
 use Rattle.delivery.proofs.parts.Joining.{none-drawn, none_written, length_written}
@@ -43,8 +47,8 @@ refused_none k left m h = go (is_kind k) refl
     go true e = absurd (h (sym (accepted k (places_of k left m * width_of k) e refl refl (mul-mod_left (places_of k left m) (width_of k)))))
     go false e = no_kind k left m e refl
 
--- by the fill that the code makes, its draws added to those made before
-pub part-made : {d : Delivery} {before after : List ℕ} {n w bytes refusal draws sum : ℕ} {s : Source}
+-- by a fill, its draws added to those made before
+part-made : {d : Delivery} {before after : List ℕ} {n w bytes refusal draws sum : ℕ} {s : Source}
     → n ≡ places_of d.kind d.left (length before) → w ≡ width_of d.kind → bytes ≡ n * w
     → FilledBytes either d.kind d.source (take bytes before) after refusal draws s → sum ≡ (d.draws + draws) % 2 ^ 64
     → FilledPart d before (after ++ drop bytes before) bytes
@@ -79,3 +83,19 @@ part-made {d} {before} {after} {n} {w} {bytes} {refusal} {draws} {sum} {s} en ew
       inside = inside;
       long = sym (length-take-le bytes (after ++ drop bytes before) inside);
     }
+
+-- by the fill that the code makes, where a refused one is as one of no draws
+chosen : (s : Source) (r : Result SourceFill Refusal) → (answered s r).value ≡ result_unwrap_or r (record { draws = 0; source = s })
+chosen s (Ok f) = refl
+chosen s (Err e) = refl
+
+pub part-filled : {d : Delivery} {before after : List ℕ} {n w bytes sum : ℕ} {f : SourceFill} (r : Result SourceFill Refusal)
+    → n ≡ places_of d.kind d.left (length before) → w ≡ width_of d.kind → bytes ≡ n * w
+    → FilledBytes either d.kind d.source (take bytes before) after (answered d.source r).refusal (answered d.source r).value.draws (answered d.source r).value.source
+    → f ≡ result_unwrap_or r (record { draws = 0; source = d.source }) → sum ≡ (d.draws + f.draws) % 2 ^ 64
+    → FilledPart d before (after ++ drop bytes before) bytes
+    (record { source = f.source; kind = d.kind; left = d.left - n; raw = d.raw; first = d.first; draws = sum })
+part-filled {d} {before} {after} {n} {w} {bytes} {sum} {f} r en ew eb F ef es =
+    let a = answered d.source r in
+    let e : a.value ≡ f = chosen d.source r ∙ sym ef in
+    part-made en ew eb (subst (λ (x : SourceFill). FilledBytes either d.kind d.source (take bytes before) after a.refusal x.draws x.source) e F) es

@@ -87,11 +87,8 @@ module _ (k left n : ℕ) {b : Bool} (e : b ≡ is_kind k) where
       ap (λ (x : Bool). cond x (min left (16 * (n / (16 * width_of k)))) 0) (sym e ∙ z)
       ∙ ap (λ (x : ℕ). min left (16 * (n / (16 * x)))) (sym ew)
 
-  pub all_left : b ≡ true → {w : ℕ} → w ≡ width_of k → left < 16 * (n / (16 * w)) → places_of k left n ≡ left
-  all_left z ew h = in_table z ew ∙ omega arith
-
-  pub room_only : b ≡ true → {w : ℕ} → w ≡ width_of k → 16 * (n / (16 * w)) ≤ left → places_of k left n ≡ 16 * (n / (16 * w))
-  room_only z ew h = in_table z ew ∙ omega arith
+  pub fewer : b ≡ true → {w p : ℕ} → w ≡ width_of k → p ≡ min left (16 * (n / (16 * w))) → places_of k left n ≡ p
+  fewer z ew e = in_table z ew ∙ sym e
 
 module _ (k left n : ℕ) where
   -- what `places` promises

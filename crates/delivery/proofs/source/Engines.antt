@@ -1,5 +1,5 @@
 -- A source draws as its engine does. Assumes nothing.
-use Rattle.std.proofs.Common.{◌≡◌, ℕ, zero, suc, Bool, true, false, cond, eqb, List, length, sym, refl, ap, ◌∙◌, eq-eqb, ne_eqb}
+use Rattle.std.proofs.Common.{◌≡◌, ℕ, zero, suc, Bool, cond, List, length, sym, refl, ap, ◌∙◌, eq-eqb, ne_eqb}
 use mathlib.Core.Path.{fun_ext}
 use Rattle.base.specs.Engine.{Engine, words_from}
 use Rattle.base.specs.Refused.{unless}
@@ -7,9 +7,10 @@ use Rattle.base.specs.Iterate.{iterate}
 use Rattle.fills.specs.FillBytes.{bytes_written, FilledBytes}
 use Rattle.philox.specs.x8.Machine.{fresh, words_of as philoxWords, next_of as philoxNext, engine as philoxEngine}
 use Rattle.philox.specs.declared.x8.Philox4x32X8.{Philox4x32X8}
-use Rattle.xoshiro.specs.x8.Calls.{placed, blank8, words_of as xoshiroWords, next_of as xoshiroNext, engine as xoshiroEngine}
+use Rattle.xoshiro.specs.x8.Calls.{placed, words_of as xoshiroWords, next_of as xoshiroNext, engine as xoshiroEngine}
 use Rattle.xoshiro.specs.declared.x8.Xoshiro256ppX8.{Xoshiro256ppX8}
-use Rattle.delivery.specs.source.Source.{source_of, words_of, next_of, start_of, either}
+use Rattle.delivery.specs.source.Source.{words_of, next_of, start_of, either}
+use Rattle.delivery.specs.declared.source.Source.TheVariants.{Xoshiro, Philox}
 
 -- ---- an engine held in another, whose words and draws are the same
 module _ {G S : Type 0} (E : Engine G) (E' : Engine S) (hold : G → S) (on : (g : G) → E'.next (hold g) ≡ hold (E.next g)) where
@@ -30,63 +31,58 @@ module _ {G S : Type 0} (E : Engine G) (E' : Engine S) (hold : G → S) (on : (g
         state = ap hold F.state ∙ sym (held_draws draws g);
       }
 
--- ---- a source by the test of its engine
-module _ (engine : ℕ) (e : eqb engine 1 ≡ true) where
-  words_1 : (p : Philox4x32X8) (x : Xoshiro256ppX8) → words_of (source_of engine x p) ≡ xoshiroWords x
-  unfolding words_of
-  words_1 p x = ap (λ (b : Bool). cond b (xoshiroWords x) (philoxWords p)) e
+-- ---- a source of either engine
+words_1 : (g : Xoshiro256ppX8) → words_of (Xoshiro g) ≡ xoshiroWords g
+unfolding words_of
+words_1 g = refl
 
-  next_1 : (p : Philox4x32X8) (x : Xoshiro256ppX8) → next_of (source_of engine x p) ≡ source_of engine (xoshiroNext x) p
-  unfolding next_of
-  next_1 p x = ap (λ (b : Bool). cond b (source_of engine (xoshiroNext x) p) (source_of engine x (philoxNext p))) e
+next_1 : (g : Xoshiro256ppX8) → next_of (Xoshiro g) ≡ Xoshiro (xoshiroNext g)
+unfolding next_of
+next_1 g = refl
 
-  start_1 : (seed block : ℕ) → start_of engine seed block ≡ source_of engine (placed seed block).rng (fresh 0 0)
-  unfolding start_of
-  start_1 seed block = ap (λ (b : Bool). cond b (source_of engine (placed seed block).rng (fresh 0 0)) (source_of engine blank8 (fresh seed block))) e
+words_2 : (g : Philox4x32X8) → words_of (Philox g) ≡ philoxWords g
+unfolding words_of
+words_2 g = refl
 
-module _ (engine : ℕ) (e : eqb engine 1 ≡ false) where
-  words_2 : (x : Xoshiro256ppX8) (p : Philox4x32X8) → words_of (source_of engine x p) ≡ philoxWords p
-  unfolding words_of
-  words_2 x p = ap (λ (b : Bool). cond b (xoshiroWords x) (philoxWords p)) e
-
-  next_2 : (x : Xoshiro256ppX8) (p : Philox4x32X8) → next_of (source_of engine x p) ≡ source_of engine x (philoxNext p)
-  unfolding next_of
-  next_2 x p = ap (λ (b : Bool). cond b (source_of engine (xoshiroNext x) p) (source_of engine x (philoxNext p))) e
-
-  start_2 : (seed block : ℕ) → start_of engine seed block ≡ source_of engine blank8 (fresh seed block)
-  unfolding start_of
-  start_2 seed block = ap (λ (b : Bool). cond b (source_of engine (placed seed block).rng (fresh 0 0)) (source_of engine blank8 (fresh seed block))) e
+next_2 : (g : Philox4x32X8) → next_of (Philox g) ≡ Philox (philoxNext g)
+unfolding next_of
+next_2 g = refl
 
 -- ---- what `start` and `fill_bytes` return, and what the draws hand out
 module _ {engine : ℕ} (h : engine ≡ 1) where
-  pub started_1 : (seed block first : ℕ) {x : Xoshiro256ppX8} {p : Philox4x32X8} → x ≡ iterate xoshiroNext first (placed seed block).rng → p ≡ fresh 0 0
-      → source_of engine x p ≡ iterate next_of first (start_of engine seed block)
-  started_1 seed block first ex ep =
-      let e = eq-eqb engine 1 h in
-      (λ i. source_of engine (ex i) (ep i))
-      ∙ sym (held_draws xoshiroEngine either (λ x. source_of engine x (fresh 0 0)) (next_1 engine e (fresh 0 0)) first (placed seed block).rng)
-      ∙ ap (iterate next_of first) (sym (start_1 engine e seed block))
+  start_1 : (seed block : ℕ) → start_of engine seed block ≡ Xoshiro (placed seed block).rng
+  unfolding start_of
+  start_1 seed block = ap (λ (b : Bool). cond b (Xoshiro (placed seed block).rng) (Philox (fresh seed block))) (eq-eqb engine 1 h)
+
+  pub started_1 : (seed block first : ℕ) {g : Xoshiro256ppX8} → g ≡ iterate xoshiroNext first (placed seed block).rng
+      → Xoshiro g ≡ iterate next_of first (start_of engine seed block)
+  started_1 seed block first e =
+      ap (λ g. Xoshiro g) e
+      ∙ sym (held_draws xoshiroEngine either (λ g. Xoshiro g) next_1 first (placed seed block).rng)
+      ∙ ap (iterate next_of first) (sym (start_1 seed block))
 
   pub drawn_1 : (seed block m : ℕ) → words_of (iterate next_of m (start_of engine seed block)) ≡ xoshiroWords (iterate xoshiroNext m (placed seed block).rng)
-  drawn_1 seed block m = ap words_of (sym (started_1 seed block m refl refl)) ∙ words_1 engine (eq-eqb engine 1 h) (fresh 0 0) (iterate xoshiroNext m (placed seed block).rng)
-
-  pub filled_1 : {k : ℕ} {p : Philox4x32X8} {x x' : Xoshiro256ppX8} {before after : List ℕ} {refusal draws : ℕ}
-      → FilledBytes xoshiroEngine k x before after refusal draws x'
-      → FilledBytes either k (source_of engine x p) before after refusal draws (source_of engine x' p)
-  filled_1 {p = p} F = let e = eq-eqb engine 1 h in held_bytes xoshiroEngine either (λ x. source_of engine x p) (next_1 engine e p) (words_1 engine e p) F
+  drawn_1 seed block m = ap words_of (sym (started_1 seed block m refl)) ∙ words_1 (iterate xoshiroNext m (placed seed block).rng)
 
 module _ {engine : ℕ} (h : engine ≡ 1 → ⊥) where
-  pub started_2 : (seed block first : ℕ) {p : Philox4x32X8} → p ≡ iterate philoxNext first (fresh seed block)
-      → source_of engine blank8 p ≡ iterate next_of first (start_of engine seed block)
-  started_2 seed block first ep =
-      let e = ne_eqb engine 1 h in
-      ap (source_of engine blank8) ep ∙ sym (held_draws philoxEngine either (source_of engine blank8) (next_2 engine e blank8) first (fresh seed block)) ∙ ap (iterate next_of first) (sym (start_2 engine e seed block))
+  start_2 : (seed block : ℕ) → start_of engine seed block ≡ Philox (fresh seed block)
+  unfolding start_of
+  start_2 seed block = ap (λ (b : Bool). cond b (Xoshiro (placed seed block).rng) (Philox (fresh seed block))) (ne_eqb engine 1 h)
+
+  pub started_2 : (seed block first : ℕ) {g : Philox4x32X8} → g ≡ iterate philoxNext first (fresh seed block)
+      → Philox g ≡ iterate next_of first (start_of engine seed block)
+  started_2 seed block first e =
+      ap (λ g. Philox g) e
+      ∙ sym (held_draws philoxEngine either (λ g. Philox g) next_2 first (fresh seed block))
+      ∙ ap (iterate next_of first) (sym (start_2 seed block))
 
   pub drawn_2 : (seed block m : ℕ) → words_of (iterate next_of m (start_of engine seed block)) ≡ philoxWords (iterate philoxNext m (fresh seed block))
-  drawn_2 seed block m = ap words_of (sym (started_2 seed block m refl)) ∙ words_2 engine (ne_eqb engine 1 h) blank8 (iterate philoxNext m (fresh seed block))
+  drawn_2 seed block m = ap words_of (sym (started_2 seed block m refl)) ∙ words_2 (iterate philoxNext m (fresh seed block))
 
-  pub filled_2 : {k : ℕ} {x : Xoshiro256ppX8} {p p' : Philox4x32X8} {before after : List ℕ} {refusal draws : ℕ}
-      → FilledBytes philoxEngine k p before after refusal draws p'
-      → FilledBytes either k (source_of engine x p) before after refusal draws (source_of engine x p')
-  filled_2 {x = x} F =
-      let e = ne_eqb engine 1 h in held_bytes philoxEngine either (source_of engine x) (next_2 engine e x) (words_2 engine e x) F
+pub filled_1 : {k : ℕ} {g g' : Xoshiro256ppX8} {before after : List ℕ} {refusal draws : ℕ} → FilledBytes xoshiroEngine k g before after refusal draws g'
+    → FilledBytes either k (Xoshiro g) before after refusal draws (Xoshiro g')
+filled_1 F = held_bytes xoshiroEngine either (λ g. Xoshiro g) next_1 words_1 F
+
+pub filled_2 : {k : ℕ} {g g' : Philox4x32X8} {before after : List ℕ} {refusal draws : ℕ} → FilledBytes philoxEngine k g before after refusal draws g'
+    → FilledBytes either k (Philox g) before after refusal draws (Philox g')
+filled_2 F = held_bytes philoxEngine either (λ g. Philox g) next_2 words_2 F

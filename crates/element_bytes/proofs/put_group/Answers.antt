@@ -1,36 +1,37 @@
+use mathlib.Core.Path.{sym, ap, ◌∙◌}
 use Rattle.fills.specs.Kinds.{kind_at}
-use Rattle.element_bytes.proofs.Numbers.{grouped_by, grouped_other}
+use Rattle.fills.specs.Numbers.{number_of}
+use Rattle.element_bytes.proofs.Numbers.{grouped_by}
 use Rattle.element_bytes.proofs.put_group.Goals as goal
 
-pub returns-then-kind-eq2 : goal.returns-then-kind-eq2
+pub returns-in-U64 : goal.returns-in-U64
 unfolding kind_at
-returns-then-kind-eq2 c = grouped_by _ _ _ _ 2 c.if-kind-eq2.true c.put_bytes.ensures
+returns-in-U64 c = grouped_by c.args.kind _ _ _ 1 (sym (ap number_of c.in-U64.is) ∙ c.kind_of.ensures) c.put_group.ensures
 
-pub returns-then-kind-eq3 : goal.returns-then-kind-eq3
+pub returns-in-U32 : goal.returns-in-U32
 unfolding kind_at
-returns-then-kind-eq3 c = grouped_by _ _ _ _ 3 c.if-kind-eq3.true c.put_bytes-then-kind-eq3.ensures
+returns-in-U32 c = grouped_by c.args.kind _ _ _ 2 (sym (ap number_of c.in-U32.is) ∙ c.kind_of.ensures) c.put_group-in-U32.ensures
 
-pub returns-then-kind-eq4 : goal.returns-then-kind-eq4
+pub returns-in-F32 : goal.returns-in-F32
 unfolding kind_at
-returns-then-kind-eq4 c = grouped_by _ _ _ _ 4 c.if-kind-eq4.true c.put_bytes-then-kind-eq4.ensures
+returns-in-F32 c = grouped_by c.args.kind _ _ _ 3 (sym (ap number_of c.in-F32.is) ∙ c.kind_of.ensures) c.put_group-in-F32.ensures
 
-pub returns-then-kind-eq5 : goal.returns-then-kind-eq5
+pub returns-in-F64 : goal.returns-in-F64
 unfolding kind_at
-returns-then-kind-eq5 c = grouped_by _ _ _ _ 5 c.if-kind-eq5.true c.put_bytes-then-kind-eq5.ensures
+returns-in-F64 c = grouped_by c.args.kind _ _ _ 4 (sym (ap number_of c.in-F64.is) ∙ c.kind_of.ensures) c.put_group-in-F64.ensures
 
-pub returns-then-kind-eq6 : goal.returns-then-kind-eq6
+pub returns-in-NormalF32 : goal.returns-in-NormalF32
 unfolding kind_at
-returns-then-kind-eq6 c = grouped_by _ _ _ _ 6 c.if-kind-eq6.true c.put_bytes-then-kind-eq6.ensures
+returns-in-NormalF32 c = grouped_by c.args.kind _ _ _ 5 (sym (ap number_of c.in-NormalF32.is) ∙ c.kind_of.ensures) c.put_group-in-NormalF32.ensures
 
-pub returns-then-kind-eq7 : goal.returns-then-kind-eq7
+pub returns-in-NormalF64 : goal.returns-in-NormalF64
 unfolding kind_at
-returns-then-kind-eq7 c = grouped_by _ _ _ _ 7 c.if-kind-eq7.true c.put_bytes-then-kind-eq7.ensures
+returns-in-NormalF64 c = grouped_by c.args.kind _ _ _ 6 (sym (ap number_of c.in-NormalF64.is) ∙ c.kind_of.ensures) c.put_pair.ensures
 
-pub returns-then-kind-eq8 : goal.returns-then-kind-eq8
+pub returns-in-Open01F32 : goal.returns-in-Open01F32
 unfolding kind_at
-returns-then-kind-eq8 c = grouped_by _ _ _ _ 8 c.if-kind-eq8.true c.put_bytes-then-kind-eq8.ensures
+returns-in-Open01F32 c = grouped_by c.args.kind _ _ _ 7 (sym (ap number_of c.in-Open01F32.is) ∙ c.kind_of.ensures) c.put_group-in-Open01F32.ensures
 
-pub returns : goal.returns
-returns c =
-    grouped_other _ _ _ _ c.if-kind-eq2.false c.if-kind-eq3.false c.if-kind-eq4.false c.if-kind-eq5.false
-    c.if-kind-eq6.false c.if-kind-eq7.false c.if-kind-eq8.false c.put_bytes-2.ensures
+pub returns-in-Open01F64 : goal.returns-in-Open01F64
+unfolding kind_at
+returns-in-Open01F64 c = grouped_by c.args.kind _ _ _ 8 (sym (ap number_of c.in-Open01F64.is) ∙ c.kind_of.ensures) c.put_group-in-Open01F64.ensures

@@ -7,6 +7,7 @@ use Prim.Native.Nat.{ℕ, zero, suc, ◌%◌}
 use native.Mathlib.Omega.{arith}
 use lib.IntN.{ℤ, pos}
 use lib.ListN.{length}
+use Rattle.base.specs.Refusal.{Answer}
 use Rattle.base.specs.Refused.{unless}
 use Rattle.base.specs.Iterate.{iterate}
 use Rattle.base.proofs.Iterate.{iterate_keeps}
@@ -19,7 +20,6 @@ use Rattle.history.proofs.philox4x32.Tallied.{tallied, tallied_start, tallied_wo
 use Rattle.history.proofs.philox4x32.Tallied.{tallied_draws, tallied_seek, tallied_half, tallied_left}
 use Rattle.history.proofs.philox4x32.Theorems.{draws-count}
 use Rattle.saved.specs.philox4x32.Form.{form_of, loaded}
-use Rattle.saved.specs.declared.philox4x32.Loaded.{Loaded}
 use Rattle.saved.proofs.philox4x32.Form.{told}
 use Rattle.saved.proofs.philox4x32.Sound.{Sound, restored, sound_fresh, sound_sought, sound_next}
 use Rattle.philox.specs.x8.Machine.{words_of, next_of, sought, label_of, left_of}
@@ -42,20 +42,20 @@ record Held (g₀ : Philox4x32X8) (t : Tally) (form : List ℕ) : Type 0 where
 held : {g₀ : Philox4x32X8} {t : Tally} {g : Philox4x32X8} {form : List ℕ} → g ≡ tallied g₀ t → Sound g → form ≡ form_of g → Held g₀ t form
 held e k q = record { kept = rw e at k; holds = q ∙ ap form_of e }
 
-read_back : {g₀ : Philox4x32X8} {t : Tally} {form : List ℕ} → Held g₀ t form → loaded form ≡ record { refusal = 0; rng = tallied g₀ t }
+read_back : {g₀ : Philox4x32X8} {t : Tally} {form : List ℕ} → Held g₀ t form → loaded form ≡ record { refusal = 0; value = tallied g₀ t }
 read_back {g₀} {t} h = ap loaded h.holds ∙ restored (tallied g₀ t) h.kept
 
 -- one call: the form that it leaves, that it is right, and that it reports what is counted
 module _ (g₀ : Philox4x32X8) (t : Tally) {form : List ℕ} (h : Held g₀ t form) where
   ok : (loaded form).refusal ≡ 0
-  ok = ap (λ (x : Loaded). x.refusal) (read_back h)
+  ok = ap (λ (x : Answer Philox4x32X8). x.refusal) (read_back h)
 
   -- in a fill the kind and the length alone are refused
   fills : (r : ℕ) → forms.refusal_by form r ≡ r
   fills r = ap₂ (λ (p l : ℕ). first_of p (first_of r l)) (told form ok (λ z. omega arith)) ok ∙ last_none r
 
-  read : (loaded form).rng ≡ tallied g₀ t
-  read = ap (λ (x : Loaded). x.rng) (read_back h)
+  read : (loaded form).value ≡ tallied g₀ t
+  read = ap (λ (x : Answer Philox4x32X8). x.value) (read_back h)
 
   stands : (c : Call) → Step form c → Held g₀ (tally_after t c) (form_in c)
   stands (fill k before after answer form') F =
@@ -63,7 +63,7 @@ module _ (g₀ : Philox4x32X8) (t : Tally) {form : List ℕ} (h : Held g₀ t fo
       held (tallied_draws n g₀ t) (iterate_keeps Sound next_of sound_next n _ h.kept) (leaves F fills read h.holds)
   stands (seek n u64 answer form') C =
       held (tallied_seek g₀ t n u64) (sound_sought _ n u64 h.kept)
-      (C.saves ∙ ap (λ (x : Loaded). unless x.refusal (form_of (sought x.rng n)) form) (read_back h))
+      (C.saves ∙ ap (λ (x : Answer Philox4x32X8). unless x.refusal (form_of (sought x.value n)) form) (read_back h))
   stands (skip n answer form') S =
       let m : ℕ = if_accepted answer n 0 in
       let made = sym (skip-counted forms n S ok) in
@@ -73,7 +73,7 @@ module _ (g₀ : Philox4x32X8) (t : Tally) {form : List ℕ} (h : Held g₀ t fo
   is_right : (c : Call) → Step form c → Right g₀ t form c
   is_right (fill k before after answer form') F =
       right F fills read _ (λ m. ap words_of (tallied_draws m g₀ t) ∙ tallied_words g₀ (iterate one_draw m t))
-  is_right (seek n u64 answer form') C = C.answers ∙ ap (λ (x : Loaded). answer_of x.refusal 0) (read_back h)
+  is_right (seek n u64 answer form') C = C.answers ∙ ap (λ (x : Answer Philox4x32X8). answer_of x.refusal 0) (read_back h)
   is_right (skip n answer form') S = skip-answers forms n S ok
 
   counts : {m : ℕ} (c : Call) → Step form c → m ≡ t.d → reported_after m c ≡ (tally_after t c).d
@@ -83,7 +83,7 @@ module _ (g₀ : Philox4x32X8) (t : Tally) {form : List ℕ} (h : Held g₀ t fo
   counts (skip n answer form') S e = omega (arith, e, (draws-count (if_accepted answer n 0) t).0)
 
   tells_left : draws_left form ≡ pos (left_at t)
-  tells_left = ap (λ (x : Loaded). answer_of x.refusal (left_of x.rng)) (read_back h) ∙ ap pos (tallied_left g₀ t)
+  tells_left = ap (λ (x : Answer Philox4x32X8). answer_of x.refusal (left_of x.value)) (read_back h) ∙ ap pos (tallied_left g₀ t)
 
   tells_label : (first : ℕ) (answer : ℤ) (first' : ℕ) → Labelled form first answer first' → (answer ≡ pos (t.d % 2))
       × (first' ≡ (label_at t).first)

@@ -8,6 +8,7 @@ use native.Mathlib.Omega.{arith}
 use lib.IntN.{ℤ, pos}
 use Rattle.base.specs.Iterate.{iterate}
 use Rattle.base.specs.Quad.{column, rows_of}
+use Rattle.base.specs.Refusal.{Answer}
 use Rattle.base.specs.Refused.{unless}
 use Rattle.base.specs.Table.{table}
 use Rattle.base.proofs.Iterate.{iterate_keeps}
@@ -23,7 +24,6 @@ use Rattle.saved.proofs.xoshiro256pp.Sound.{Sound, sound_placed, sound_next, sou
 use Rattle.saved.proofs.xoshiro256pp.Theorems.{load_saved}
 use Rattle.xoshiro.specs.x8.Calls.{next_of, block_jumps, placed, moved_blocks}
 use Rattle.xoshiro.specs.x8.Lanes.{lane_of, of_rows, of_states}
-use Rattle.xoshiro.specs.declared.x8.LanesAnswer.{LanesAnswer}
 use Rattle.xoshiro.specs.declared.x8.Xoshiro256ppX8.{Xoshiro256ppX8}
 use Rattle.xoshiro.proofs.x8.Theorems.{lanes_start}
 use Rattle.xoshiro.proofs.scalar.Theorems.{seed_distance}
@@ -48,18 +48,18 @@ module _ {s : State} {d j : ℕ} {form : List ℕ} (h : Held s d j form) where
   held_form : form ≡ form_of (standing s d j)
   held_form = h.holds ∙ lanes-form h.g ∙ ap (λ (r : List (List ℕ)). form_of (of_rows r)) (rows_of-same _ _ h.at.lane)
 
-  read_back : loaded form ≡ record { refusal = 0; rng = h.g }
+  read_back : loaded form ≡ record { refusal = 0; value = h.g }
   read_back = ap loaded h.holds ∙ load_saved h.g h.sound.words h.sound.nonzero
 
   ok : (loaded form).refusal ≡ 0
-  ok = ap (λ (x : LanesAnswer). x.refusal) read_back
+  ok = ap (λ (x : Answer Xoshiro256ppX8). x.refusal) read_back
 
   -- in a fill the kind and the length alone are refused
   fills : (r : ℕ) → forms.refusal_by form r ≡ r
   fills r = ap (λ (x : ℕ). first_of x r) ok
 
-  read : (loaded form).rng ≡ h.g
-  read = ap (λ (x : LanesAnswer). x.rng) read_back
+  read : (loaded form).value ≡ h.g
+  read = ap (λ (x : Answer Xoshiro256ppX8). x.value) read_back
 
   held_same : {d' j' : ℕ} {form' : List ℕ} → d ≡ d' → j ≡ j' → form' ≡ form → Held s d' j' form'
   held_same ed ej e = record { g = h.g; at = at_same h.at ed ej refl; sound = h.sound; holds = e ∙ h.holds }
@@ -94,7 +94,7 @@ one {j = j} h (fill k before after answer form') F =
 one {d = d} {j} {form} h (move n before after answer form') F =
     let count : after ≡ block_jumps n = F.counts ∙ ap (λ (r : ℕ). unless r (block_jumps n) before) (ok h) in
     let answers : answer ≡ pos 0 = F.called.answers ∙ ap (λ (r : ℕ). answer_of r 0) (ok h) in
-    let new = F.called.saves ∙ ap (λ (x : LanesAnswer). unless x.refusal (form_of (moved_blocks n x.rng).rng) form) (read_back h) in
+    let new = F.called.saves ∙ ap (λ (x : Answer Xoshiro256ppX8). unless x.refusal (form_of (moved_blocks n x.value).rng) form) (read_back h) in
     record {
       draws = refl;
       jumps = ap (λ (x : ℕ). if_accepted answer x 0) count;

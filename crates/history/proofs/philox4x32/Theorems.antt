@@ -58,7 +58,7 @@ module _ (s₀ : Philox4x32X8) (t : Tally) {s : Philox4x32X8} (e : s ≡ tallied
   stands (group r) h = ap (λ (x : Blocks). x.rng) h ∙ ap (λ (x : Philox4x32X8). (grouped x).rng) e ∙ tallied_group s₀ t
   stands (seek n u64 r) h = h ∙ ap (λ (x : Philox4x32X8). sought x n) e ∙ tallied_seek s₀ t n u64
   stands (fill K before after r) h = h.0.state ∙ drawn_on r.draws _ h.0.count
-  stands (bytes k before after r) h = h.0.state ∙ drawn_on r.draws _ (draws-made h.0)
+  stands (bytes k before after r) h = h.0.state ∙ drawn_on r.value.draws _ (draws-made h.0)
   stands (many at m before after draws label rng) h = h.0.state ∙ drawn_on m m refl
   stands (skip n rng) h = h ∙ drawn_on n n refl
 
@@ -137,7 +137,7 @@ stays_sound {s} k (draw r) h = rw h (sound_next s k)
 stays_sound {s} k (group r) h = rw h (sound_grouped s k)
 stays_sound {s} k (seek n u64 r) h = rw h (sound_sought s n u64 k)
 stays_sound {s} k (fill K before after r) h = rw h.0.state (iterate_keeps Sound next_of sound_next r.draws s k)
-stays_sound {s} k (bytes n before after r) h = rw h.0.state (iterate_keeps Sound next_of sound_next r.draws s k)
+stays_sound {s} k (bytes n before after r) h = rw h.0.state (iterate_keeps Sound next_of sound_next r.value.draws s k)
 stays_sound {s} k (many at m before after draws label rng) h = rw h.0.state (iterate_keeps Sound next_of sound_next m s k)
 stays_sound {s} k (skip n rng) h = rw h (iterate_keeps Sound next_of sound_next n s k)
 

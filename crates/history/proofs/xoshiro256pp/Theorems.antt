@@ -56,7 +56,7 @@ one {d = d} {j = j} a (bytes k before after r) h =
       draws = draws-reported h ∙ draws-made h;
       jumps = refl;
       right = right_bytes h _ (λ m. words-at (at-draws m a));
-      at = at_same (at-draws r.draws a) (ap (λ (n : ℕ). d + n) (draws-made h)) (sym (add-zero j)) h.state;
+      at = at_same (at-draws r.value.draws a) (ap (λ (n : ℕ). d + n) (draws-made h)) (sym (add-zero j)) h.state;
     }
 one {d = d} a (move n r) h =
     record {
@@ -107,7 +107,7 @@ sound_call : {g : Xoshiro256ppX8} → Sound g → (c : Call) → Step g c → So
 unfolding drawn
 sound_call {g} s (draw r) h = subst Sound (sym (ap (λ x. x.rng) h)) (sound_next g s)
 sound_call {g} s (fill K before after r) h = subst Sound (sym h.state) (iterate_keeps Sound next_of sound_next r.draws g s)
-sound_call {g} s (bytes k before after r) h = subst Sound (sym h.state) (iterate_keeps Sound next_of sound_next r.draws g s)
+sound_call {g} s (bytes k before after r) h = subst Sound (sym h.state) (iterate_keeps Sound next_of sound_next r.value.draws g s)
 sound_call {g} s (move n r) h = subst Sound (sym (ap (λ x. x.rng) h)) (sound_moved n g s)
 sound_call {g} s (many at m before after draws rng) h = subst Sound (sym h.state) (iterate_keeps Sound next_of sound_next m g s)
 sound_call {g} s (skip n rng) h = subst Sound (sym h) (iterate_keeps Sound next_of sound_next n g s)

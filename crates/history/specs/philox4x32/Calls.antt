@@ -3,6 +3,7 @@
 use Rattle.std.specs.Prelude.{List, ◌≡◌, ℕ, ◌^◌, ◌<◌}
 use Rattle.base.specs.Engine.{DrawnAt}
 use Rattle.base.specs.Lists as lists
+use Rattle.base.specs.Refusal.{Answer}
 use Rattle.fills.specs.Fill.{Kind}
 use Rattle.philox.specs.x8.Machine.{drawn, grouped, sought, label_of, skipped, engine}
 use Rattle.philox.specs.declared.x8.Blocks.{Blocks}
@@ -10,18 +11,18 @@ use Rattle.philox.specs.declared.x8.Draw.{Draw}
 use Rattle.philox.specs.declared.x8.Label.{Label}
 use Rattle.philox.specs.declared.x8.Philox4x32X8.{Philox4x32X8}
 use Rattle.philox_fills.specs.Labelled.{LabelledFill, LabelledBytes}
-use Rattle.philox_fills.specs.declared.bytes.ByteFill.{ByteFill}
 use Rattle.philox_fills.specs.declared.fill_words.Fill.{Fill}
 
 -- A call, with what it was handed besides the generator and what it handed back: a single draw (next_u64x8, draw), a group call (blocks),
 -- a seek (to a u64), a typed fill, a byte fill with its kind's number, m draws whose words go into a slice from place `at` on (draw_many,
--- fill_buffer), n draws that hand out nothing (skip). `before` and `after` are the lent slice at the call and at the return.
+-- fill_buffer), n draws that hand out nothing (skip). `before` and `after` are the lent slice at the call and at the return;
+-- of a byte fill r is what its result answers, its refusal's number among it.
 pub data Call : Type 1 where
   draw : (r : Draw) → Call
   group : (r : Blocks) → Call
   seek : (n : ℕ) → n < 2 ^ 64 → (r : Philox4x32X8) → Call
   fill : {A : Type 0} (K : Kind A) (before after : List A) (r : Fill) → Call
-  bytes : (k : ℕ) (before after : List ℕ) (r : ByteFill) → Call
+  bytes : (k : ℕ) (before after : List ℕ) (r : Answer Fill) → Call
   many : (at m : ℕ) (before after : List ℕ) (draws : ℕ) (label : Label) (rng : Philox4x32X8) → Call
   skip : (n : ℕ) (rng : Philox4x32X8) → Call
 
@@ -41,7 +42,7 @@ rng_of (draw r) = r.rng
 rng_of (group r) = r.rng
 rng_of (seek n u64 r) = r
 rng_of (fill K before after r) = r.rng
-rng_of (bytes k before after r) = r.rng
+rng_of (bytes k before after r) = r.value.rng
 rng_of (many at m before after draws label rng) = rng
 rng_of (skip n rng) = rng
 

@@ -70,7 +70,7 @@ reported_after m (draw r) = m + 1
 reported_after m (group r) = m
 reported_after m (seek n u64 r) = 0
 reported_after m (fill K before after r) = m + r.draws
-reported_after m (bytes k before after r) = m + unless r.refusal r.draws 0
+reported_after m (bytes k before after r) = m + unless r.refusal r.value.draws 0
 reported_after m (many at n before after draws label rng) = m + draws
 reported_after m (skip n rng) = m + n
 
@@ -104,8 +104,8 @@ Right s₀ t s (seek n u64 r) = r.counter ≡ n
 Right s₀ t s (fill K before after r) =
     RightFill (λ m. words_at s₀ (iterate one_draw m t)) K before after r.draws × (r.label ≡ label_at t)
 Right s₀ t s (bytes k before after r) =
-    RightBytes (λ m. words_at s₀ (iterate one_draw m t)) k before after s r.refusal r.draws r.rng
-    × (r.label ≡ unless r.refusal (label_at t) no_label)
+    RightBytes (λ m. words_at s₀ (iterate one_draw m t)) k before after s r.refusal r.value.draws r.value.rng
+    × (r.value.label ≡ unless r.refusal (label_at t) no_label)
 Right s₀ t s (many at m before after draws label rng) =
     RightDraws (λ i. words_at s₀ (iterate one_draw i t)) at m before after draws × (label ≡ label_at t)
 Right s₀ t s (skip n rng) = Unit
@@ -142,7 +142,7 @@ pub record Restores : Type 1 where
       → (calls : List Call) → Run (fresh seed stream) calls → Restored (rng_after (fresh seed stream) calls)
   -- load: the form is bytes
   pub from_form : (form : List ℕ) → ((i : ℕ) → get_or form i 0 < 256) → (loaded form).refusal ≡ 0
-      → (calls : List Call) → Run (loaded form).rng calls → Restored (rng_after (loaded form).rng calls)
+      → (calls : List Call) → Run (loaded form).value calls → Restored (rng_after (loaded form).value calls)
 
 -- a run of draws adds to d alone
 abbrev pub DrawsCount : Type 0

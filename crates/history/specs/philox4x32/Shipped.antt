@@ -18,6 +18,7 @@ use Rattle.philox.proofs.x8.Philox4x32X8.next_u64x8.Reads as next-u64x8-reads
 use Rattle.philox.proofs.x8.Philox4x32X8.seek.Kinds as seek-kinds
 use Rattle.philox.proofs.x8.Philox4x32X8.seek.Reads as seek-reads
 use Rattle.philox.proofs.x8.Philox4x32X8.skip.Reads as skip-reads
+use Rattle.philox_fills.specs.Labelled.{answered}
 use Rattle.philox_fills.proofs.bytes.fill_bytes.Reads as fill-bytes-reads
 use Rattle.philox_fills.proofs.fill_words.fill_buffer.Reads as fill-buffer-reads
 use Rattle.philox_fills.proofs.fill_words.fill_u64.Reads as fill-u64-reads
@@ -61,7 +62,7 @@ pub record PhiloxShips : Type 1 where
   pub fill_open01_f64 : Says fill-open01-f64-reads.Asked fill-open01-f64-reads.Learnt
       (λ κs a r e. Step a.0 (fill open01_f64s a.1.0.now e.1.0.now r))
   pub fill_bytes : Says fill-bytes-reads.Asked fill-bytes-reads.Learnt
-      (λ κs a r e. Step a.0 (bytes a.1.0 a.1.1.0.now e.1.1.0.now r))
+      (λ κs a r e. Step a.0 (bytes a.1.0 a.1.1.0.now e.1.1.0.now (answered a.0 r)))
   -- many draws at once: the one that waits, or as many whole groups as there is room for
   pub draw_many : Says draw-many-reads.Asked draw-many-reads.Learnt
       (λ κs a r e.

@@ -27,7 +27,7 @@ use Rattle.history.specs.xoshiro256pp.Calls.{Call, draw, fill, bytes, move, many
 abbrev pub draws_reported : Call → ℕ
 draws_reported (draw r) = 1
 draws_reported (fill K before after r) = r.draws
-draws_reported (bytes k before after r) = unless r.refusal r.draws 0
+draws_reported (bytes k before after r) = unless r.refusal r.value.draws 0
 draws_reported (move n r) = 0
 draws_reported (many at m before after draws rng) = draws
 draws_reported (skip n rng) = n
@@ -74,7 +74,7 @@ words_at s d j = table 8 (λ i. output (steps d (jumps (j + i) s)))
 abbrev pub Right : State → ℕ → ℕ → Xoshiro256ppX8 → Call → Type 0
 Right s d j g (draw r) = r.words ≡ words_at s d j
 Right s d j g (fill K before after r) = RightFill (λ m. words_at s (d + m) j) K before after r.draws
-Right s d j g (bytes k before after r) = RightBytes (λ m. words_at s (d + m) j) k before after g r.refusal r.draws r.rng
+Right s d j g (bytes k before after r) = RightBytes (λ m. words_at s (d + m) j) k before after g r.refusal r.value.draws r.value.rng
 Right s d j g (move n r) = r.jumps ≡ block_jumps n
 Right s d j g (many at m before after draws rng) = RightDraws (λ i. words_at s (d + i) j) at m before after draws
 Right s d j g (skip n rng) = Unit
@@ -103,10 +103,10 @@ pub record Restores : Type 1 where
   pub from_block : (seed b : ℕ) (calls : List Call) → Run (placed seed b).rng calls → Restored (rng_after (placed seed b).rng calls)
   -- from_lanes: the lanes are what its type says, eight of four words
   pub from_lanes : (lanes : List Xoshiro256pp) → length lanes ≡ 8 → ((i : ℕ) → i < 8 → Words (state_of (get_or lanes i no_lane)))
-      → (from_lanes lanes).refusal ≡ 0 → (calls : List Call) → Run (from_lanes lanes).rng calls → Restored (rng_after (from_lanes lanes).rng calls)
+      → (from_lanes lanes).refusal ≡ 0 → (calls : List Call) → Run (from_lanes lanes).value calls → Restored (rng_after (from_lanes lanes).value calls)
   -- load: the form is bytes
   pub from_form : (form : List ℕ) → ((i : ℕ) → get_or form i 0 < 256) → (loaded form).refusal ≡ 0
-      → (calls : List Call) → Run (loaded form).rng calls → Restored (rng_after (loaded form).rng calls)
+      → (calls : List Call) → Run (loaded form).value calls → Restored (rng_after (loaded form).value calls)
 
 -- ---- of the fills made where D is d and J is j, place by place and byte by byte: what the table says of the words from there on
 abbrev pub RowsInLists : Type 0

@@ -10,8 +10,9 @@ use Rattle.math.specs.Sqrt.{sqrt}
 use Rattle.math.specs.Turns.{angle}
 use Rattle.math_f64.specs.ln.Parts.{parts_of, series_start, series_end}
 use Rattle.math_f64.proofs.ln.Whole.{whole as whole-ln}
-use Rattle.math_f64.specs.sincos_turns.Lanes.{sin_start, cos_start, lane_of}
-use Rattle.math_f64.specs.declared.sincos_turns.CosSinLane.{CosSinLane}
+use Rattle.math_f64.specs.sincos_turns.Lanes.{sin_start, cos_start}
+use Rattle.math.specs.Lanes.{lane_of}
+use Rattle.math.specs.declared.cos_sin.CosSin.{CosSin}
 use Rattle.math_f64.proofs.sincos_turns.Whole.{whole as whole-turn}
 use Rattle.math_f64.specs.box_muller_x32.Stages.{at, ended, cos_last, sin_last}
 
@@ -30,13 +31,13 @@ radii x es ee ep eq er =
 -- the halves, from those of the lanes x and by way of the angles th and the polynomials s and c of the turns t
 module _ (x t : List Float) {r th s c : List Float} (hx : length x ≡ 32) (ht : length t ≡ 32) (er : r ≡ table 32 (λ i. radius binary64 (at x i)))
     (et : th ≡ table 32 (λ i. angle binary64 (at t i))) (es : s ≡ table 32 (λ i. sin_start (angle binary64 (at t i)))) (ec : c ≡ table 32 (λ i. cos_start (angle binary64 (at t i)))) where
-  turned : (i : ℕ) → i < 32 → ended (at t i) (at th i) (at s i) (at c i) ≡ lane_of (at t i)
+  turned : (i : ℕ) → i < 32 → ended (at t i) (at th i) (at s i) (at c i) ≡ lane_of binary64 (at t i)
   turned i h = (λ k. ended (at t i) (placed 32 nan _ et i h k) (placed 32 nan _ es i h k) (placed 32 nan _ ec i h k)) ∙ whole-turn (at t i)
 
-  half : (of : CosSinLane → Float) {out : List Float} → out ≡ table 32 (λ i. mul binary64 (at r i) (of (ended (at t i) (at th i) (at s i) (at c i))))
-      → out ≡ zip_with (λ a b. mul binary64 (radius binary64 a) (of (lane_of b))) x t
+  half : (of : CosSin Float → Float) {out : List Float} → out ≡ table 32 (λ i. mul binary64 (at r i) (of (ended (at t i) (at th i) (at s i) (at c i))))
+      → out ≡ zip_with (λ a b. mul binary64 (radius binary64 a) (of (lane_of binary64 b))) x t
   half of e =
-      e ∙ table_same 32 _ _ (λ i h k. mul binary64 (placed 32 nan _ er i h k) (of (turned i h k))) ∙ table-zip (λ a b. mul binary64 (radius binary64 a) (of (lane_of b))) nan nan 32 x t hx ht
+      e ∙ table_same 32 _ _ (λ i h k. mul binary64 (placed 32 nan _ er i h k) (of (turned i h k))) ∙ table-zip (λ a b. mul binary64 (radius binary64 a) (of (lane_of binary64 b))) nan nan 32 x t hx ht
 
   pub cosines : {out : List Float} → out ≡ table 32 (λ i. cos_last (at r i) (at t i) (at th i) (at s i) (at c i)) → out ≡ zip_with (cos_half binary64) x t
   unfolding cos_half lane_of

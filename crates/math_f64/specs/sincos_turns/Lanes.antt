@@ -1,17 +1,10 @@
--- The cosine and the sine of one turn, and of eight, as the declared records; and the parts in which one turn's are made.
-use Rattle.std.specs.Prelude.{List, map, take, drop, Float}
+-- The parts in which one turn's cosine and sine are made.
+use Rattle.std.specs.Prelude.{take, drop, Float}
 use Rattle.std.specs.Float.{binary64}
 use Rattle.std.specs.Float.Ieee.{mul}
 use Rattle.floats.specs.patterns.Polynomial.{horner, over}
-use Rattle.math.specs.Turns.{quarter, sin_coefficients64, cos_coefficients64, turned_sin, turned_cos, sin_turns, cos_turns}
-use Rattle.math_f64.specs.declared.sincos_turns.CosSin.{CosSin}
-use Rattle.math_f64.specs.declared.sincos_turns.CosSinLane.{CosSinLane}
-
-unfoldable pub lane_of : Float → CosSinLane
-lane_of t = record { cos = cos_turns binary64 t; sin = sin_turns binary64 t }
-
-unfoldable pub lanes_of : List Float → CosSin
-lanes_of t = record { cos = map (cos_turns binary64) t; sin = map (sin_turns binary64) t }
+use Rattle.math.specs.Turns.{quarter, sin_coefficients64, cos_coefficients64, turned_sin, turned_cos}
+use Rattle.math.specs.declared.cos_sin.CosSin.{CosSin}
 
 -- ---- the polynomials of an angle th up to their coefficients 1 / 9! and 1 / 8!, and the sine and the cosine from what they came to there
 unfoldable pub sin_start : Float → Float
@@ -27,5 +20,5 @@ unfoldable pub cos_end : Float → Float → Float
 cos_end th y = horner binary64 (mul binary64 th th) y (drop 4 cos_coefficients64)
 
 -- those of the turn t, from the sine and the cosine of the angle that is left of it
-unfoldable pub turned_of : Float → Float → Float → CosSinLane
+unfoldable pub turned_of : Float → Float → Float → CosSin Float
 turned_of t s c = let q = quarter binary64 t in record { cos = turned_cos q s c; sin = turned_sin q s c }

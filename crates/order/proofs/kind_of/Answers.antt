@@ -1,19 +1,18 @@
-use mathlib.Core.Bool.{cond}
-use mathlib.Core.List.{List}
-use mathlib.Core.Path.{◌≡◌, ap, ◌∙◌}
-use Prim.Native.Nat.{ℕ}
-use Rattle.order.specs.Order.{kind_of}
-use Rattle.order.specs.Words.{starts_with}
+use Rattle.std.proofs.Common.{sym, ap, ◌∙◌, eqb}
+use Rattle.order.specs.Order.{nonzero}
+use Rattle.order.proofs.Laws.{kind_named, kind_not, kind_some, kind_none, kind_tested, none_numbered, some_numbered}
 use Rattle.order.proofs.kind_of.Goals as goal
 
--- `order::kind_of` meets its contract.
--- a word, or else what comes after it
-or_else : (w s : List ℕ) (k : ℕ) {x y z : ℕ} → x ≡ cond (starts_with w s) k y → y ≡ z → x ≡ cond (starts_with w s) k z
-or_else w s k p q = p ∙ ap (cond (starts_with w s) k) q
+pub returns-in-Some : goal.returns-in-Some
+returns-in-Some c = kind_some c.in-Some.i (kind_named c.args.s.now c.in-Some.ensures)
+
+pub returns-in_err-k : goal.returns-in_err-k
+returns-in_err-k c =
+    let s = c.args.s.now in
+    c.from_residual.ensures ∙ kind_none (kind_not s c.in_default.ensures ∙ none_numbered s c.count.ensures c.in_err-k.ensures)
 
 pub returns : goal.returns
-unfolding kind_of
 returns c =
-    or_else _ _ _ c.named.ensures (or_else _ _ _ c.named-k-7.ensures (or_else _ _ _ c.named-k-6.ensures
-    (or_else _ _ _ c.named-k-5.ensures (or_else _ _ _ c.named-k-4.ensures (or_else _ _ _ c.named-k-3.ensures
-    (or_else _ _ _ c.named-k-2.ensures (or_else _ _ _ c.named-k.ensures c.numbered_kind-k.ensures)))))))
+    let s = c.args.s.now in
+    let k = c.in_ok-k.k in
+    c.then_some.ensures ∙ kind_tested (eqb k 0) k ∙ ap nonzero (sym (kind_not s c.in_default.ensures ∙ some_numbered s c.count.ensures c.in_ok-k.ensures))

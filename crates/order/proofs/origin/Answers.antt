@@ -1,31 +1,38 @@
-use mathlib.Core.Path.{sym, ◌∙◌}
-use Rattle.order.proofs.Reading.{reads, no_engine, no_seed, no_block, no_first, started}
+use Rattle.std.proofs.Common.{sym, ap, ◌∙◌}
+use Rattle.order.specs.Faults.{engine_in, origin_in}
+use Rattle.order.proofs.Laws.{passed}
+use Rattle.order.proofs.Reading.{reads, no_engine, no_seed, no_block, no_first, begun_at}
 use Rattle.order.proofs.origin.Goals as goal
 
-pub returns-then-e-eq0 : goal.returns-then-e-eq0
-returns-then-e-eq0 c = c.refused.ensures ∙ no_engine _ _ _ _ c.engine_of-e.ensures c.if-e-eq0.true
+pub returns-in_err-engine : goal.returns-in_err-engine
+returns-in_err-engine c =
+    ap origin_in (passed _ c.from_residual.ensures.1 c.in_err-engine.ensures.value)
+    ∙ no_engine _ _ _ _ (ap engine_in (sym c.in_err-engine.ensures.ok_part) ∙ c.engine_of.ensures)
 
-pub returns-in_default : goal.returns-in_default
-returns-in_default c = c.refused-in_default.ensures ∙ no_seed _ _ _ _ c.engine_of-e.ensures c.if-e-eq0.false (sym c.read_number.ensures ∙ c.in_default.is)
+pub returns-in_err-seed : goal.returns-in_err-seed
+returns-in_err-seed c =
+    let q = ap engine_in (sym c.in_ok-engine.ensures.ok_part) ∙ c.engine_of.ensures in
+    ap origin_in (passed _ c.from_residual-in_err-seed.ensures.1 c.in_err-seed.ensures.value)
+    ∙ no_seed _ _ _ _ c.in_ok-engine.engine q (sym c.in_err-seed.ensures.ok_part ∙ c.number.ensures)
 
-pub returns-in_default-read_number : goal.returns-in_default-read_number
-returns-in_default-read_number c =
-    c.refused-in_default-read_number.ensures
-    ∙ no_block _ _ _ _ c.engine_of-e.ensures c.if-e-eq0.false
-    (sym c.read_number.ensures ∙ c.in-Value.is)
-    (reads _ c.read_number-2.ensures c.last_block.ensures c.in_default-read_number.is)
+pub returns-in_err-block : goal.returns-in_err-block
+returns-in_err-block c =
+    let q = ap engine_in (sym c.in_ok-engine.ensures.ok_part) ∙ c.engine_of.ensures in
+    ap origin_in (passed _ c.from_residual-in_err-block.ensures.1 c.in_err-block.ensures.value)
+    ∙ no_block _ _ _ _ c.in_ok-engine.engine q (sym c.in_ok-seed.ensures.ok_part ∙ c.number.ensures)
+    (reads _ c.last_block.ensures (sym c.in_err-block.ensures.ok_part ∙ c.number-2.ensures))
 
-pub returns-in_default-read_number-2 : goal.returns-in_default-read_number-2
-returns-in_default-read_number-2 c =
-    c.refused-in_default-read_number-2.ensures
-    ∙ no_first _ _ _ _ c.engine_of-e.ensures c.if-e-eq0.false
-    (sym c.read_number.ensures ∙ c.in-Value.is)
-    (reads _ c.read_number-2.ensures c.last_block.ensures c.in-Value-read_number.is)
-    (reads _ c.read_number-3.ensures c.last_draw.ensures c.in_default-read_number-2.is)
+pub returns-in_err-first : goal.returns-in_err-first
+returns-in_err-first c =
+    let q = ap engine_in (sym c.in_ok-engine.ensures.ok_part) ∙ c.engine_of.ensures in
+    ap origin_in (passed _ c.from_residual-in_err-first.ensures.1 c.in_err-first.ensures.value)
+    ∙ no_first _ _ _ _ c.in_ok-engine.engine q (sym c.in_ok-seed.ensures.ok_part ∙ c.number.ensures)
+    (reads _ c.last_block.ensures (sym c.in_ok-block.ensures.ok_part ∙ c.number-2.ensures))
+    (reads _ c.last_draw.ensures (sym c.in_err-first.ensures.ok_part ∙ c.number-3.ensures))
 
 pub returns : goal.returns
 returns c =
-    started _ _ _ _ c.engine_of-e.ensures c.if-e-eq0.false
-    (sym c.read_number.ensures ∙ c.in-Value.is)
-    (reads _ c.read_number-2.ensures c.last_block.ensures c.in-Value-read_number.is)
-    (reads _ c.read_number-3.ensures c.last_draw.ensures c.in-Value-read_number-2.is)
+    let q = ap engine_in (sym c.in_ok-engine.ensures.ok_part) ∙ c.engine_of.ensures in
+    begun_at _ _ _ _ c.in_ok-engine.engine q (sym c.in_ok-seed.ensures.ok_part ∙ c.number.ensures)
+    (reads _ c.last_block.ensures (sym c.in_ok-block.ensures.ok_part ∙ c.number-2.ensures))
+    (reads _ c.last_draw.ensures (sym c.in_ok-first.ensures.ok_part ∙ c.number-3.ensures))

@@ -1,9 +1,9 @@
-use mathlib.Core.Path.{◌∙◌}
+use Rattle.order.specs.Faults.{started}
 use Rattle.order.proofs.Reading.{draws-past, draws_there}
 use Rattle.order.proofs.with_draws.Goals as goal
 
 pub returns-then-is_past : goal.returns-then-is_past
-returns-then-is_past c = c.refused.ensures ∙ draws-past _ _ _ _ c.draws_of-draws.ensures c.last_draw-last.ensures c.is_past.ensures c.if-is_past.true
+returns-then-is_past c = draws-past (started c.args.o) _ _ _ c.draws_of-draws.ensures c.last_draw.ensures c.if-is_past.ensures
 
 pub returns : goal.returns
-returns c = draws_there _ _ _ _ c.draws_of-draws.ensures c.last_draw-last.ensures c.is_past.ensures c.if-is_past.false
+returns c = draws_there (started c.args.o) _ _ _ c.draws_of-draws.ensures c.last_draw.ensures c.number.ensures c.if-is_past.ensures

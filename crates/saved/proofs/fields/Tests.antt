@@ -1,6 +1,7 @@
 -- A test of every element of a table, by the test of each. Assumes nothing.
-use Rattle.std.proofs.Common.{◌≡◌, ℕ, zero, suc, ◌<◌, Bool, true, false, ◌&&◌, T, sym, refl, ap, ◌∙◌, subst, ap₂, suc-le-suc, le_of_suc-le-suc, not-suc-le-zero, zero-lt-suc}
+use Rattle.std.proofs.Common.{◌≡◌, ℕ, zero, suc, ◌<◌, Bool, true, false, ◌&&◌, T, eqb, List, [], ◌∷◌, length, get_or, replicate, arith, sym, refl, ap, ◌∙◌, subst, ap₂, suc-le-suc, le_of_suc-le-suc, not-suc-le-zero, zero-lt-suc}
 use mathlib.Core.Bool.{and-false, false≢true}
+use lib.Pointwise.{pointwise}
 use Rattle.base.specs.Every.{every}
 use Rattle.base.specs.Table.{table}
 use Rattle.base.proofs.Every.{every-table}
@@ -27,3 +28,22 @@ module _ {A : Type 0} (p : A → Bool) where
 
   pub each_passes : (n : ℕ) (f : ℕ → A) → every p (table n f) ≡ true → (i : ℕ) → i < n → p (f i) ≡ true
   each_passes n f e i l = is_true (p (f i)) (every-table p n f (subst T (sym e) tt) i l)
+
+-- ---- two lists of n elements compared by `==`
+pub same_tested : (n : ℕ) (xs ys : List ℕ) (p : ℕ → Bool) (f : ℕ → ℕ) → length xs ≡ n → length ys ≡ n
+    → ((i : ℕ) → p (f i) ≡ eqb (get_or xs i 0) (get_or ys i 0)) → pointwise eqb xs ys ≡ every p (table n f)
+unfolding table
+same_tested zero [] [] p f a b h = refl
+same_tested zero [] (y ∷ ys) p f a b h = absurd (omega arith)
+same_tested zero (x ∷ xs) ys p f a b h = absurd (omega arith)
+same_tested (suc n) [] ys p f a b h = absurd (omega arith)
+same_tested (suc n) (x ∷ xs) [] p f a b h = absurd (omega arith)
+same_tested (suc n) (x ∷ xs) (y ∷ ys) p f a b h =
+    ap₂ ◌&&◌ (sym (h 0)) (same_tested n xs ys p (λ i. f (suc i)) (omega arith) (omega arith) (λ i. h (suc i)))
+
+-- a list compared with as many zeros
+pub zeros_tested : (n : ℕ) (xs : List ℕ) → length xs ≡ n → pointwise eqb xs (replicate n 0) ≡ every (λ x. eqb x 0) xs
+zeros_tested zero [] e = refl
+zeros_tested zero (x ∷ xs) e = absurd (omega arith)
+zeros_tested (suc n) [] e = absurd (omega arith)
+zeros_tested (suc n) (x ∷ xs) e = ap (λ (b : Bool). eqb x 0 && b) (zeros_tested n xs (omega arith))

@@ -4,6 +4,7 @@ use native.Mathlib.Decide.{ℕ_discrete}
 use borrow.Author.Tests.{not-true, not-false}
 use Rattle.base.specs.Bytes.{le_bytes, le_nat, flat}
 use Rattle.base.specs.Every.{every}
+use Rattle.base.specs.Refusal.{Answer}
 use Rattle.base.specs.Stored.{stored}
 use Rattle.base.specs.Table.{table}
 use Rattle.base.proofs.Bytes.{length-le_bytes, flat-length, flat_append}
@@ -12,14 +13,15 @@ use Rattle.base.proofs.Table.{length-table, table-get_or, table_same}
 use Rattle.saved.specs.fields.Fields.{laid_out, fields_at, fields}
 use Rattle.saved.proofs.fields.Bounds.{table_below, append-below, fits_run}
 use Rattle.saved.proofs.fields.Fields.{Bytes, Fits, laid_run, length_laid, fields_laid, laid_fields}
-use Rattle.saved.proofs.fields.Tests.{and_both, all_pass, one_fails, each_passes}
+use lib.Pointwise.{pointwise}
+use Rattle.std.specs.Int.{from_bool}
+use Rattle.saved.proofs.fields.Tests.{and_both, all_pass, one_fails, each_passes, same_tested}
 use Rattle.philox.specs.x8.Claims.{Numbered}
 use Rattle.philox.specs.x8.Machine.{upper_at, none8, sought}
 use Rattle.philox.specs.declared.x8.Philox4x32X8.{Philox4x32X8}
 use Rattle.saved.specs.philox4x32.Claims.{Words, settled}
 use Rattle.saved.specs.philox4x32.Form.{layout, waiting_of, number_of, fields_of, form_of, mark_in, waiting_in, number_in}
 use Rattle.saved.specs.philox4x32.Form.{of_fields, is_form, refused, of_form, parsed, is_numbered, loaded}
-use Rattle.saved.specs.declared.philox4x32.Loaded.{Loaded}
 
 -- the words that are saved, where words wait or not
 abbrev waiting_by : Philox4x32X8 → Bool → List ℕ
@@ -57,6 +59,11 @@ form-words g key e =
     let rest : flat (le_bytes 8) (waiting_of g) ++ le_bytes 8 (number_of g) ≡ laid_out (replicate 9 8) kept =
     sym apart ∙ sym (laid_run 8 kept) ∙ ap (λ (n : ℕ). laid_out (replicate n 8) kept) (kept-long g) in
     ap₂ (λ (k w : List ℕ). k ++ le_bytes 8 g.stream ++ le_bytes 8 g.counter ++ le_bytes 8 (cond g.waiting 1 0) ++ w) e rest
+
+-- the mark is the number of the test whether words wait
+pub marked : (b : Bool) → from_bool b ≡ cond b 1 0
+marked true = refl
+marked false = refl
 
 pub words-stored : (g : Philox4x32X8) (l : List ℕ) → length l ≡ 104 → (key : ℕ) {mark number : ℕ} {ws l1 l2 l3 l4 l5 out : List ℕ}
     → le_bytes 8 key ≡ le_bytes 4 (get_or g.key 0 0) ++ le_bytes 4 (get_or g.key 1 0)
@@ -121,15 +128,15 @@ module _ (s : List ℕ) where
 
     pub parse_refused : not ok ≡ true → refused 2 ≡ parsed s
     unfolding of_form
-    parse_refused h = ap (λ (b : Bool). cond b (record { refusal = 0; rng = of_fields (fields layout s) }) (refused 2))
+    parse_refused h = ap (λ (b : Bool). cond b (record { refusal = 0; value = of_fields (fields layout s) }) (refused 2))
         (sym (not-true ok h) ∙ test) ∙ parse_long long
 
     pub parse_done : not ok ≡ false → ((i : ℕ) → get_or s i 0 < 256) → {seed lo hi stream counter : ℕ} {waiting : Bool}
         → seed ≡ le_nat (take 8 (drop 0 s)) → lo ≡ seed % 2 ^ 32 → hi ≡ seed / 2 ^ 32
         → stream ≡ le_nat (take 8 (drop 8 s)) → counter ≡ le_nat (take 8 (drop 16 s)) → waiting ≡ eqb mark 1
-        → ◌≡◌ {A = Loaded} (record {
+        → ◌≡◌ {A = Answer Philox4x32X8} (record {
           refusal = 0;
-          rng =
+          value =
               record { key = lo ∷ hi ∷ []; stream = stream; counter = counter; waiting = waiting; pending = pending; first = number };
         })
         (parsed s)
@@ -141,10 +148,10 @@ module _ (s : List ℕ) where
         let w = ew ∙ ap (λ (x : ℕ). eqb x 1) em in
         (λ i. record {
           refusal = 0;
-          rng =
+          value =
               record { key = a i ∷ b i ∷ []; stream = et i; counter = ec i; waiting = w i; pending = ep i; first = en i };
         })
-        ∙ ap (λ (b : Bool). cond b (record { refusal = 0; rng = of_fields (fields layout s) }) (refused 2)) (sym (not-false ok h) ∙ test)
+        ∙ ap (λ (b : Bool). cond b (record { refusal = 0; value = of_fields (fields layout s) }) (refused 2)) (sym (not-false ok h) ∙ test)
         ∙ parse_long long
 
 -- ---- a generator from its fields, and back
@@ -175,7 +182,7 @@ fits g w = (w.key 0, (w.key 1, (w.stream, (w.counter, go g.waiting))))
         (lit< tt, fits_run 8 (waiting_by g true ++ (g.first ∷ [])) (kept true waits w.first))
     go false = (lit< tt, fits_run 8 (none8 ++ (0 ∷ [])) (kept false zeros-below (lit< tt)))
 
-form-read : (g : Philox4x32X8) → Words g → of_form (fields_of g) ≡ record { refusal = 0; rng = settled g }
+form-read : (g : Philox4x32X8) → Words g → of_form (fields_of g) ≡ record { refusal = 0; value = settled g }
 unfolding of_form is_form table sought
 form-read g w = go g.waiting
   where
@@ -185,16 +192,16 @@ form-read g w = go g.waiting
     pending : table 8 (λ i. get_or g.pending i 0) ≡ g.pending
     pending = table-get_or 8 0 g.pending w.eight
 
-    holding : Bool → List ℕ → List ℕ → ℕ → Loaded
+    holding : Bool → List ℕ → List ℕ → ℕ → Answer Philox4x32X8
     holding b k p n = record {
       refusal = 0;
-      rng =
+      value =
           record { key = k; stream = g.stream; counter = g.counter; waiting = b; pending = p; first = n };
     }
 
     go : (b : Bool) → of_form (fields_by g b) ≡ record {
       refusal = 0;
-      rng = cond b (holding b g.key g.pending g.first).rng
+      value = cond b (holding b g.key g.pending g.first).value
           (sought g g.counter);
     }
     go true = λ i. holding true (key i) (pending i) g.first
@@ -228,8 +235,8 @@ fields-of f e h =
 abbrev pub form_in : List ℕ → Bool
 form_in s = is_form (mark_in (fields layout s)) (waiting_in (fields layout s)) (number_in (fields layout s))
 
-abbrev answer : List ℕ → Bool → Loaded
-answer s b = cond b (record { refusal = 0; rng = of_fields (fields layout s) }) (refused 2)
+abbrev answer : List ℕ → Bool → Answer Philox4x32X8
+answer s b = cond b (record { refusal = 0; value = of_fields (fields layout s) }) (refused 2)
 
 pub parse_answer : (s : List ℕ) → length s ≡ 104 → {b : Bool} → form_in s ≡ b → parsed s ≡ answer s b
 unfolding of_form
@@ -268,47 +275,55 @@ module _ (g : Philox4x32X8) where
       ∙ table_same 8 _ _ (λ i l. eqb-true _ _ (each i l))
       ∙ table-get_or 8 0 (upper_at g g.first) (length-table 8 _)
 
+  -- the code compares the two as arrays
+  pub compared : g.waiting ≡ true → length g.pending ≡ 8 → {upper : List ℕ} → upper ≡ upper_at g g.first
+      → pointwise eqb g.pending upper ≡ is_numbered g
+  unfolding upper_at
+  compared w long e =
+      ap (pointwise eqb g.pending) e
+      ∙ same_tested 8 g.pending (upper_at g g.first) same (λ i. i) long (length-table 8 _) (λ i. refl) ∙ sym (numbered_by w)
+
 -- ---- what load answers, by that test
 -- what is parsed is a generator or a refusal
-pub parsed_cases : (P : Loaded → Type 0) (s : List ℕ) → P (refused 1) → P (refused 2)
-    → P (record { refusal = 0; rng = of_fields (fields layout s) }) → P (parsed s)
+pub parsed_cases : (P : Answer Philox4x32X8 → Type 0) (s : List ℕ) → P (refused 1) → P (refused 2)
+    → P (record { refusal = 0; value = of_fields (fields layout s) }) → P (parsed s)
 unfolding parsed of_form
 parsed_cases P s one two done = go (eqb (length s) 104) (form_in s)
   where
-    go : (a b : Bool) → P (cond {A = Loaded} a (answer s b) (refused 1))
+    go : (a b : Bool) → P (cond {A = Answer Philox4x32X8} a (answer s b) (refused 1))
     go true true = done
     go true false = two
     go false b = one
 
-pub load_by : (s : List ℕ) {told : Loaded} → told ≡ parsed s → {b ok : Bool} → ok ≡ is_numbered told.rng → ok ≡ b
+pub load_by : (s : List ℕ) {told : Answer Philox4x32X8} → told ≡ parsed s → {b ok : Bool} → ok ≡ is_numbered told.value → ok ≡ b
     → cond b told (refused 14) ≡ loaded s
 unfolding loaded
 load_by s et eo eb =
     (λ i. cond (sym eb i) (et i) (refused 14)) ∙ ap (λ (ok : Bool). cond ok (parsed s) (refused 14))
-    (eo ∙ ap (λ (x : Loaded). is_numbered x.rng) et)
+    (eo ∙ ap (λ (x : Answer Philox4x32X8). is_numbered x.value) et)
 
 pub refused_as : (s : List ℕ) (n : ℕ) → refused n ≡ parsed s → refused n ≡ loaded s
-refused_as s n e = load_by s e refl (none-waits (refused n).rng refl)
+refused_as s n e = load_by s e refl (none-waits (refused n).value refl)
 
 -- what was parsed, by what is loaded
 pub told : (s : List ℕ) {n : ℕ} → (loaded s).refusal ≡ n → (n ≡ 14 → ⊥) → (parsed s).refusal ≡ n
-told s {n} e h = go (is_numbered (parsed s).rng) refl
+told s {n} e h = go (is_numbered (parsed s).value) refl
   where
-    go : (b : Bool) → is_numbered (parsed s).rng ≡ b → (parsed s).refusal ≡ n
-    go true t = ap (λ (r : Loaded). r.refusal) (load_by s refl refl t) ∙ e
-    go false t = absurd (h (sym e ∙ ap (λ (r : Loaded). r.refusal) (sym (load_by s refl refl t))))
+    go : (b : Bool) → is_numbered (parsed s).value ≡ b → (parsed s).refusal ≡ n
+    go true t = ap (λ (r : Answer Philox4x32X8). r.refusal) (load_by s refl refl t) ∙ e
+    go false t = absurd (h (sym e ∙ ap (λ (r : Answer Philox4x32X8). r.refusal) (sym (load_by s refl refl t))))
 
 pub told_14 : (s : List ℕ) → (loaded s).refusal ≡ 14 → (parsed s).refusal ≡ 0
-told_14 s e = go (is_numbered (parsed s).rng) refl
+told_14 s e = go (is_numbered (parsed s).value) refl
   where
-    go : (b : Bool) → is_numbered (parsed s).rng ≡ b → (parsed s).refusal ≡ 0
+    go : (b : Bool) → is_numbered (parsed s).value ≡ b → (parsed s).refusal ≡ 0
     go true t =
         parsed_cases (λ r. r.refusal ≡ 14 → r.refusal ≡ 0) s (λ q. absurd (omega arith)) (λ q. absurd (omega arith)) (λ q. refl)
-        (ap (λ (r : Loaded). r.refusal) (load_by s refl refl t) ∙ e)
+        (ap (λ (r : Answer Philox4x32X8). r.refusal) (load_by s refl refl t) ∙ e)
     go false t =
-        let waits : (n : ℕ) → is_numbered (refused n).rng ≡ false → (refused n).refusal ≡ 0 = λ n q. absurd
-        (true≢false (sym (none-waits (refused n).rng refl) ∙ q)) in
-        parsed_cases (λ r. is_numbered r.rng ≡ false → r.refusal ≡ 0) s (waits 1) (waits 2) (λ q. refl) t
+        let waits : (n : ℕ) → is_numbered (refused n).value ≡ false → (refused n).refusal ≡ 0 = λ n q. absurd
+        (true≢false (sym (none-waits (refused n).value refl) ∙ q)) in
+        parsed_cases (λ r. is_numbered r.value ≡ false → r.refusal ≡ 0) s (waits 1) (waits 2) (λ q. refl) t
 
 pub load_short : (s : List ℕ) → (length s ≡ 104 → ⊥) → refused 1 ≡ loaded s
 load_short s h = refused_as s 1 (parse_short s h)
@@ -317,7 +332,7 @@ pub record Accepted (s : List ℕ) : Type 0 where
   pub long : length s ≡ 104
   pub form : form_in s ≡ true
   pub numbered : is_numbered (of_fields (fields layout s)) ≡ true
-  pub holds : (loaded s).rng ≡ of_fields (fields layout s)
+  pub holds : (loaded s).value ≡ of_fields (fields layout s)
 
 pub load-accepted : (s : List ℕ) → (loaded s).refusal ≡ 0 → Accepted s
 load-accepted s ok = elim (ℕ_discrete (length s) 104) [
@@ -327,14 +342,14 @@ load-accepted s ok = elim (ℕ_discrete (length s) 104) [
   where
     refuses : (n : ℕ) → refused (suc n) ≡ parsed s → ⊥
     refuses n e =
-        let r = ap (λ (r : Loaded). r.refusal) (refused_as s (suc n) e) in
+        let r = ap (λ (r : Answer Philox4x32X8). r.refusal) (refused_as s (suc n) e) in
         omega arith
 
     numbers : length s ≡ 104 → form_in s ≡ true → (b : Bool) → is_numbered (of_fields (fields layout s)) ≡ b → Accepted s
     numbers e f true n =
-        record { long = e; form = f; numbered = n; holds = ap (λ (r : Loaded). r.rng) (sym (load_by s (sym (parse_answer s e f)) refl n)) }
+        record { long = e; form = f; numbered = n; holds = ap (λ (r : Answer Philox4x32X8). r.value) (sym (load_by s (sym (parse_answer s e f)) refl n)) }
     numbers e f false n =
-        let other = ap (λ (r : Loaded). r.refusal) (load_by s (sym (parse_answer s e f)) refl n) in
+        let other = ap (λ (r : Answer Philox4x32X8). r.refusal) (load_by s (sym (parse_answer s e f)) refl n) in
         absurd (omega arith)
 
     go : length s ≡ 104 → (b : Bool) → form_in s ≡ b → Accepted s
@@ -348,7 +363,7 @@ unfolding form_of fields_at
 saved_read s b e h = ap (laid_out layout) (fields-of (fields layout s) refl h) ∙ laid_fields layout s e b
 
 -- what is read from a generator's form is the generator
-parse_saved : (g : Philox4x32X8) → Words g → parsed (form_of g) ≡ record { refusal = 0; rng = settled g }
+parse_saved : (g : Philox4x32X8) → Words g → parsed (form_of g) ≡ record { refusal = 0; value = settled g }
 unfolding form_of
 parse_saved g w = sym (parse_long (form_of g) (form-length g)) ∙ ap of_form (fields_laid layout (fields_of g) (fits g w)) ∙ form-read g w
 
@@ -360,5 +375,5 @@ numbered-settled g h = go g.waiting
     go true = h
     go false = λ w. absurd (true≢false (sym w))
 
-pub read_saved : (g : Philox4x32X8) → Words g → Numbered g → loaded (form_of g) ≡ record { refusal = 0; rng = settled g }
+pub read_saved : (g : Philox4x32X8) → Words g → Numbered g → loaded (form_of g) ≡ record { refusal = 0; value = settled g }
 read_saved g w h = sym (load_by (form_of g) (sym (parse_saved g w)) refl (is-numbered (settled g) (numbered-settled g h)))

@@ -1,16 +1,17 @@
 -- The moves between forms of 96 and of 104 bytes. Assumes nothing.
-use Rattle.std.proofs.Common.{◌≡◌, ℕ, ◌+◌, ◌-◌, ◌%◌, ◌^◌, Bool, true, false, cond, eqb, List, ◌++◌, length, take, drop, sym, refl, ap, ◌∙◌, arith, length-append, take_at, eq-eqb, ne_eqb}
+use Rattle.std.proofs.Common.{◌≡◌, ℕ, ◌+◌, ◌-◌, ◌%◌, ◌^◌, Bool, true, false, cond, eqb, List, ◌++◌, length, take, drop, replicate, sym, refl, ap, ◌∙◌, arith, length-append, take_at, eq-eqb, ne_eqb}
 use Rattle.base.specs.Bytes.{le_bytes, le_nat}
+use Rattle.base.specs.Refusal.{Answer}
 use Rattle.base.specs.Refused.{unless}
 use Rattle.base.specs.Stored.{stored}
 use Rattle.base.proofs.Refused.{unless-none, unless-some}
-use Rattle.base.proofs.Stored.{stored-two, stored-whole, stored-over}
+use Rattle.base.proofs.Stored.{stored-two, stored-whole, stored-first}
 use Rattle.saved.specs.fields.Fields.{fields_at, fields}
 use Rattle.saved.specs.fields.Saved.{length_refusal, Written}
+use Rattle.philox.specs.declared.x8.Philox4x32X8.{Philox4x32X8}
 use Rattle.saved.specs.philox4x32.Claims.{MovedBack}
 use Rattle.saved.specs.philox4x32.Form.{loaded}
-use Rattle.saved.specs.philox4x32.Moves.{layout96, number_for, with_number, without_number}
-use Rattle.saved.specs.declared.philox4x32.Loaded.{Loaded}
+use Rattle.saved.specs.philox4x32.Moves.{layout96, number_for, with_number}
 use Rattle.saved.proofs.philox4x32.Form.{load_short, load-accepted}
 
 -- ---- the number that an old form gets, by its mark
@@ -30,12 +31,14 @@ pub number-none : (s : List ℕ) {mark : ℕ} → mark ≡ le_nat (take 8 (drop 
 number-none s {mark} em e1 = sym (number_by s em (ne_eqb mark 1 e1))
 
 -- ---- an old form with its number, stored
-pub number_put : (old zeros m out : List ℕ) (n : ℕ) → length zeros ≡ 104 → length old ≡ 96 → m ≡ stored zeros 0 old
-    → n ≡ number_for (fields layout96 old)
-    → out ≡ stored m 96 (le_bytes 8 n) → out ≡ with_number old
-number_put old zeros m out n ez eo em en e =
+pub number_put : (old : List ℕ) {copied out : List ℕ} {n : ℕ} → length old ≡ 96 → copied ≡ old → n ≡ number_for (fields layout96 old)
+    → out ≡ stored (copied ++ replicate 8 0) 96 (le_bytes 8 n) → out ≡ with_number old
+number_put old {copied} {out} {n} eo ec en e =
     let N = le_bytes 8 (number_for (fields layout96 old)) in
-    let both = stored-two zeros 0 old N em (omega arith) (e ∙ ap (λ (k : ℕ). stored m 96 (le_bytes 8 k)) en) in
+    let zeros : List ℕ = replicate 104 0 in
+    let first : copied ++ replicate 8 0 ≡ stored zeros 0 old = ap (λ (l : List ℕ). l ++ replicate 8 0) ec
+    ∙ ap (λ (k : ℕ). old ++ drop k zeros) (sym eo) ∙ sym (stored-first zeros old (omega arith)) in
+    let both = stored-two zeros 0 old N first (omega arith) (e ∙ ap (λ (k : ℕ). stored (copied ++ replicate 8 0) 96 (le_bytes 8 k)) en) in
     both ∙ stored-whole zeros (old ++ N) (omega (arith, length-append old N))
 
 -- ---- a move into a slice: another length of the slice, then what loading refuses
@@ -70,7 +73,7 @@ accepted n to refusal = go (eqb (length to) n)
 pub old_short : (old : List ℕ) → (length old ≡ 96 → ⊥) → 1 ≡ (loaded (with_number old)).refusal
 old_short old h =
     let N = le_bytes 8 (number_for (fields layout96 old)) in
-    ap (λ (r : Loaded). r.refusal) (load_short (with_number old) (λ e. h (omega (arith, e, length-append old N))))
+    ap (λ (r : Answer Philox4x32X8). r.refusal) (load_short (with_number old) (λ e. h (omega (arith, e, length-append old N))))
 
 -- ---- moved and moved back
 pub back : MovedBack
@@ -81,17 +84,3 @@ back old form form' old₂ old₂' r F e T =
     let z : r ≡ 0 = T.refuses ∙ move_by 96 old₂ (loaded form').refusal (eq-eqb (length old₂) 96 e)
     ∙ ap (λ (s : List ℕ). (loaded s).refusal) F.writes ∙ ok in
     (z, T.writes ∙ unless-none r z _ old₂ ∙ ap (take 96) F.writes ∙ take_at old N 96 long)
-
--- ---- what stands in the slice after a move
-pub put_moved : (old form : List ℕ) {form' moved : List ℕ} → length form ≡ 104 → length old ≡ 96 → moved ≡ with_number old
-    → form' ≡ stored form 0 moved
-    → form' ≡ with_number old
-put_moved old form ef eo em e =
-    e ∙ ap (stored form 0) em ∙ stored-whole form (with_number old) (omega
-    (arith, length-append old (le_bytes 8 (number_for (fields layout96 old)))))
-
-pub put_first : (form old : List ℕ) {old' : List ℕ} → length old ≡ 96 → (loaded form).refusal ≡ 0 → old' ≡ stored old 0 form
-    → old' ≡ without_number form
-put_first form old eo ok e =
-    let long = (load-accepted form ok).long in
-    e ∙ stored-over old form (omega arith) ∙ ap (λ (n : ℕ). take n form) eo

@@ -36,7 +36,7 @@ settles g r = go g.waiting refl
         }
 
 pub restored : (g : Philox4x32X8) → Sound g → Restored g
-restored g s = read_saved g s.words s.numbered ∙ ap (λ (x : Philox4x32X8). record { refusal = 0; rng = x }) (settles g s.rest)
+restored g s = read_saved g s.words s.numbered ∙ ap (λ (x : Philox4x32X8). record { refusal = 0; value = x }) (settles g s.rest)
 
 -- ---- the constructors, the calls and `load`
 pub sound_fresh : (seed stream : ℕ) → seed < 2 ^ 64 → stream < 2 ^ 64 → Sound (fresh seed stream)
@@ -78,13 +78,13 @@ sound_grouped g s =
       numbered = keeps_number.blocks g s.numbered;
     }
 
-pub sound_loaded : (s : List ℕ) → Bytes s → (loaded s).refusal ≡ 0 → Sound (loaded s).rng
+pub sound_loaded : (s : List ℕ) → Bytes s → (loaded s).refusal ≡ 0 → Sound (loaded s).value
 sound_loaded s b ok = record { words = words-loaded s b ok; rest = rest; numbered = load-numbered s }
   where
     f : List ℕ
     f = fields layout s
 
-    rest : (loaded s).rng.waiting ≡ false → ((loaded s).rng.pending ≡ none8) × ((loaded s).rng.first ≡ 0)
+    rest : (loaded s).value.waiting ≡ false → ((loaded s).value.pending ≡ none8) × ((loaded s).value.first ≡ 0)
     rest w =
         let a = load-accepted s ok in
         let e : eqb (mark_in f) 1 ≡ false = sym (ap (λ (g : Philox4x32X8). g.waiting) a.holds) ∙ w in

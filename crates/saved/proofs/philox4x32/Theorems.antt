@@ -2,14 +2,15 @@
 use Rattle.std.proofs.Common.{◌≡◌, ℕ, ◌+◌, ◌<◌, Bool, true, false, cond, ◌&&◌, ◌||◌, eqb, List, length, get_or, sym, refl, ap, ◌∙◌, true≢false, eq-eqb, ne_eqb}
 use mathlib.Core.Bool.{and-false}
 use Rattle.base.specs.Every.{every}
+use Rattle.base.specs.Refusal.{Answer}
 use Rattle.base.proofs.Table.{length-table, get_or-table}
 use Rattle.saved.specs.fields.Fields.{fields}
 use Rattle.saved.proofs.fields.Tests.{all_pass, one_fails}
 use Rattle.philox.specs.x8.Claims.{Numbered}
+use Rattle.philox.specs.declared.x8.Philox4x32X8.{Philox4x32X8}
 use Rattle.saved.specs.philox4x32.Claims.{FormLength, LoadSaved, LoadNumbered, SaveLoaded, Refusals, MovedBack}
 use Rattle.saved.specs.philox4x32.Form.{layout, form_of, mark_in, waiting_in, number_in}
 use Rattle.saved.specs.philox4x32.Form.{of_fields, is_form, refused, parsed, is_numbered, loaded}
-use Rattle.saved.specs.declared.philox4x32.Loaded.{Loaded}
 use Rattle.saved.proofs.philox4x32.Form.{form-length as long, read_saved, saved_read, parse_short, parse_answer}
 use Rattle.saved.proofs.philox4x32.Moves.{back}
 use Rattle.saved.proofs.philox4x32.Form.{none-waits, all_same, one_other, numbered_is}
@@ -23,10 +24,10 @@ load_saved = read_saved
 
 pub load-numbered : LoadNumbered
 unfolding loaded
-load-numbered s = go (is_numbered (parsed s).rng) refl
+load-numbered s = go (is_numbered (parsed s).value) refl
   where
-    go : (b : Bool) → is_numbered (parsed s).rng ≡ b → Numbered (cond {A = Loaded} b (parsed s) (refused 14)).rng
-    go true e = numbered_is (parsed s).rng (parsed_cases (λ r. length r.rng.pending ≡ 8) s refl refl (length-table 8 _)) e
+    go : (b : Bool) → is_numbered (parsed s).value ≡ b → Numbered (cond {A = Answer Philox4x32X8} b (parsed s) (refused 14)).value
+    go true e = numbered_is (parsed s).value (parsed_cases (λ r. length r.value.pending ≡ 8) s refl refl (length-table 8 _)) e
     go false e = λ w. absurd (true≢false (sym w))
 
 pub save-loaded : SaveLoaded
@@ -55,7 +56,7 @@ refusals s =
           (some_word i l q) refl));
       two_number = λ e m q.
           refused_with (parse_answer s e (unmarked-number m q));
-      fourteen = λ e m i l q. ap (λ (r : Loaded). r.refusal) (sym (load_by s (sym (parse_answer s e (is-marked m))) refl
+      fourteen = λ e m i l q. ap (λ (r : Answer Philox4x32X8). r.refusal) (sym (load_by s (sym (parse_answer s e (is-marked m))) refl
           (one_other (of_fields f) (eq-eqb mark 1 m) i l q)));
     }
   where
@@ -93,7 +94,7 @@ refusals s =
 
     -- a form that is parsed is accepted where its words are its group's; one that isn't is refused so
     accepted : length s ≡ 104 → is_form mark waiting number ≡ true → is_numbered (of_fields f) ≡ true → (loaded s).refusal ≡ 0
-    accepted e i n = ap (λ (r : Loaded). r.refusal) (sym (load_by s (sym (parse_answer s e i)) refl n))
+    accepted e i n = ap (λ (r : Answer Philox4x32X8). r.refusal) (sym (load_by s (sym (parse_answer s e i)) refl n))
 
     refused_with : {n : ℕ} → parsed s ≡ refused n → (loaded s).refusal ≡ n
-    refused_with {n} e = ap (λ (r : Loaded). r.refusal) (sym (refused_as s n (sym e)))
+    refused_with {n} e = ap (λ (r : Answer Philox4x32X8). r.refusal) (sym (refused_as s n (sym e)))

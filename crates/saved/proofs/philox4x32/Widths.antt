@@ -110,7 +110,7 @@ words-next g w =
     (mod-lt _ (pow_pos 64)) w.counter w)
 
 -- a field's width bounds it
-pub words-loaded : (s : List ℕ) → Bytes s → (loaded s).refusal ≡ 0 → Words (loaded s).rng
+pub words-loaded : (s : List ℕ) → Bytes s → (loaded s).refusal ≡ 0 → Words (loaded s).value
 words-loaded s b ok = rw (load-accepted s ok).holds words
   where
     below : (k : ℕ) → get_or (fields layout s) k 0 < 256 ^ get_or layout k 0

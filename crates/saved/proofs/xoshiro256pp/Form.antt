@@ -4,6 +4,7 @@ use native.Mathlib.Decide.{ℕ_discrete}
 use borrow.Author.Tests.{not-true}
 use Rattle.base.specs.Bytes.{le_bytes, le_nat, flat}
 use Rattle.base.specs.Every.{every}
+use Rattle.base.specs.Refusal.{Answer}
 use Rattle.base.specs.Quad.{column, rows_of}
 use Rattle.base.specs.Stored.{stored}
 use Rattle.base.specs.Table.{table}
@@ -21,7 +22,6 @@ use Rattle.xoshiro.specs.declared.scalar.Xoshiro256pp.{Xoshiro256pp}
 use Rattle.xoshiro.specs.x8.Calls.{is_valid, of_lanes, from_lanes, blank8}
 use Rattle.xoshiro.specs.x8.Claims.{Eights}
 use Rattle.xoshiro.specs.x8.Lanes.{lane_of, of_states}
-use Rattle.xoshiro.specs.declared.x8.LanesAnswer.{LanesAnswer}
 use Rattle.xoshiro.specs.declared.x8.Xoshiro256ppX8.{Xoshiro256ppX8}
 use Rattle.saved.specs.xoshiro256pp.Claims.{Words}
 use Rattle.saved.specs.xoshiro256pp.Form.{layout, row, fields_of, form_of, lane_in, loaded}
@@ -43,14 +43,10 @@ form-rows g w =
     ∙ ap (λ (l : List ℕ). l ++ flat f g.s3) (flat_append f (g.s0 ++ g.s1) g.s2 ∙ ap (λ (l : List ℕ). l ++ flat f g.s2) (flat_append f g.s0 g.s1)))
     ∙ sym (laid_run 8 (fields_of g) ∙ (λ i. flat f (table-get_or 8 0 g.s0 w.row0 i ++ table-get_or 8 0 g.s1 w.row1 i ++ table-get_or 8 0 g.s2 w.row2 i ++ table-get_or 8 0 g.s3 w.row3 i)))
 
--- a row is stored, and has eight words
-abbrev RowStored : List ℕ → ℕ → List ℕ → List ℕ → Type 0
-RowStored l at r out = (out ≡ stored l at (flat (le_bytes 8) r)) × (length r ≡ 8)
-
-pub rows-stored : (g : Xoshiro256ppX8) (l : List ℕ) → length l ≡ 256 → {l1 l2 l3 out : List ℕ}
-    → RowStored l 0 g.s0 l1 → RowStored l1 64 g.s1 l2 → RowStored l2 128 g.s2 l3 → RowStored l3 192 g.s3 out → out ≡ form_of g
-rows-stored g l e {l1} {l2} {l3} {out} (e1, n0) (e2, n1) (e3, n2) (e4, n3) =
-    let w : Eights g = record { row0 = n0; row1 = n1; row2 = n2; row3 = n3 } in
+pub rows-stored : (g : Xoshiro256ppX8) (l : List ℕ) → length l ≡ 256 → Eights g → {l1 l2 l3 out : List ℕ}
+    → l1 ≡ stored l 0 (flat (le_bytes 8) g.s0) → l2 ≡ stored l1 64 (flat (le_bytes 8) g.s1) → l3 ≡ stored l2 128 (flat (le_bytes 8) g.s2)
+    → out ≡ stored l3 192 (flat (le_bytes 8) g.s3) → out ≡ form_of g
+rows-stored g l e w {l1} {l2} {l3} {out} e1 e2 e3 e4 =
     let A = flat (le_bytes 8) g.s0 in
     let B = flat (le_bytes 8) g.s1 in
     let C = flat (le_bytes 8) g.s2 in
@@ -82,13 +78,13 @@ lane_read s i h {at} e e0 e1 e2 e3 =
 
 -- ---- what load answers, by the test of the length
 module _ (s : List ℕ) where
-  pub load-long : length s ≡ 256 → {r : LanesAnswer} {lanes : List Xoshiro256pp} → r ≡ from_lanes lanes → lanes ≡ table 8 (lane_in (fields layout s)) → r ≡ loaded s
+  pub load-long : length s ≡ 256 → {r : Answer Xoshiro256ppX8} {lanes : List Xoshiro256pp} → r ≡ from_lanes lanes → lanes ≡ table 8 (lane_in (fields layout s)) → r ≡ loaded s
   unfolding loaded
-  load-long e er el = er ∙ ap from_lanes el ∙ ap (λ (b : Bool). cond b (from_lanes (table 8 (lane_in (fields layout s)))) (record { refusal = 1; rng = blank8 })) (sym (eq-eqb (length s) 256 e))
+  load-long e er el = er ∙ ap from_lanes el ∙ ap (λ (b : Bool). cond b (from_lanes (table 8 (lane_in (fields layout s)))) (record { refusal = 1; value = blank8 })) (sym (eq-eqb (length s) 256 e))
 
-  pub load_short : (length s ≡ 256 → ⊥) → ◌≡◌ {A = LanesAnswer} (record { refusal = 1; rng = blank8 }) (loaded s)
+  pub load_short : (length s ≡ 256 → ⊥) → ◌≡◌ {A = Answer Xoshiro256ppX8} (record { refusal = 1; value = blank8 }) (loaded s)
   unfolding loaded
-  load_short h = ap (λ (b : Bool). cond b (from_lanes (table 8 (lane_in (fields layout s)))) (record { refusal = 1; rng = blank8 })) (sym (ne_eqb (length s) 256 h))
+  load_short h = ap (λ (b : Bool). cond b (from_lanes (table 8 (lane_in (fields layout s)))) (record { refusal = 1; value = blank8 })) (sym (ne_eqb (length s) 256 h))
 
 -- ---- a generator from its fields, and back
 abbrev pub of_fields : List ℕ → Xoshiro256ppX8
@@ -141,32 +137,32 @@ lane_zero_lem s i h = ap all_zero (column-rows_of (λ j. state_of (lane_in (fiel
 abbrev valid_in : List ℕ → Bool
 valid_in s = every is_valid (table 8 (lane_in (fields layout s)))
 
-abbrev answer : List ℕ → Bool → LanesAnswer
-answer s b = cond b (record { refusal = 0; rng = of_fields (fields layout s) }) (record { refusal = 3; rng = blank8 })
+abbrev answer : List ℕ → Bool → Answer Xoshiro256ppX8
+answer s b = cond b (record { refusal = 0; value = of_fields (fields layout s) }) (record { refusal = 3; value = blank8 })
 
 module _ (s : List ℕ) (long : length s ≡ 256) where
   answered : {b : Bool} → valid_in s ≡ b → loaded s ≡ answer s b
   unfolding from_lanes of_lanes rows_of table
   answered e = sym (load-long s long refl refl) ∙ ap (answer s) e
 
-  pub load_valid : ((i : ℕ) → i < 8 → lane_zero s i ≡ false) → loaded s ≡ record { refusal = 0; rng = of_fields (fields layout s) }
+  pub load_valid : ((i : ℕ) → i < 8 → lane_zero s i ≡ false) → loaded s ≡ record { refusal = 0; value = of_fields (fields layout s) }
   unfolding is_valid
   load_valid h = answered (all_pass is_valid 8 (lane_in (fields layout s)) (λ i l. ap not (h i l)))
 
-  pub load-zero : (i : ℕ) → i < 8 → lane_zero s i ≡ true → loaded s ≡ record { refusal = 3; rng = blank8 }
+  pub load-zero : (i : ℕ) → i < 8 → lane_zero s i ≡ true → loaded s ≡ record { refusal = 3; value = blank8 }
   unfolding is_valid
   load-zero i l e = answered (one_fails is_valid 8 (lane_in (fields layout s)) i l (ap not e))
 
 pub record Accepted (s : List ℕ) : Type 0 where
   pub long : length s ≡ 256
   pub valid : (i : ℕ) → i < 8 → lane_zero s i ≡ false
-  pub holds : (loaded s).rng ≡ of_fields (fields layout s)
+  pub holds : (loaded s).value ≡ of_fields (fields layout s)
 
 pub load-accepted : (s : List ℕ) → (loaded s).refusal ≡ 0 → Accepted s
 unfolding is_valid
 load-accepted s ok = elim (ℕ_discrete (length s) 256) [
   | yes e ↦ go e (valid_in s) refl
-  | no q ↦ let one = ap (λ (r : LanesAnswer). r.refusal) (load_short s q) in absurd (omega arith)
+  | no q ↦ let one = ap (λ (r : Answer Xoshiro256ppX8). r.refusal) (load_short s q) in absurd (omega arith)
 ]
   where
     go : length s ≡ 256 → (b : Bool) → valid_in s ≡ b → Accepted s
@@ -174,6 +170,6 @@ load-accepted s ok = elim (ℕ_discrete (length s) 256) [
         record {
           long = e;
           valid = λ i l. not-true (lane_zero s i) (each_passes is_valid 8 (lane_in (fields layout s)) v i l);
-          holds = ap (λ (r : LanesAnswer). r.rng) (answered s e v);
+          holds = ap (λ (r : Answer Xoshiro256ppX8). r.value) (answered s e v);
         }
-    go e false v = let three = ap (λ (r : LanesAnswer). r.refusal) (answered s e v) in absurd (omega arith)
+    go e false v = let three = ap (λ (r : Answer Xoshiro256ppX8). r.refusal) (answered s e v) in absurd (omega arith)

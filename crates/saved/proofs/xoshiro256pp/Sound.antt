@@ -3,6 +3,7 @@
 use Rattle.std.proofs.Common.{◌≡◌, ℕ, ◌+◌, ◌^◌, ◌<◌, Bool, true, false, cond, not, T, List, length, get_or, sym, refl, ap, ◌∙◌, subst, arith}
 use lib.ListN.{get_or-replicate}
 use Rattle.base.specs.Every.{every}
+use Rattle.base.specs.Refusal.{Answer}
 use Rattle.base.specs.Iterate.{iterate}
 use Rattle.base.specs.Quad.{rows_of}
 use Rattle.base.proofs.Every.{every_each}
@@ -24,7 +25,6 @@ use Rattle.xoshiro.proofs.scalar.Seeding.{words-seeded}
 use Rattle.xoshiro.specs.rows.Lanes.{stepped}
 use Rattle.xoshiro.specs.x8.Calls.{next_of, block_jumps, placed, moved_blocks, is_valid, no_lane, of_lanes, blank8, from_lanes}
 use Rattle.xoshiro.specs.x8.Lanes.{lane_of, of_states}
-use Rattle.xoshiro.specs.declared.x8.LanesAnswer.{LanesAnswer}
 use Rattle.xoshiro.specs.declared.x8.Xoshiro256ppX8.{Xoshiro256ppX8}
 use Rattle.xoshiro_steps.proofs.Theorems.{never_zero}
 use Rattle.saved.specs.xoshiro256pp.Claims.{Words, NoZeroLane}
@@ -80,18 +80,18 @@ sound_moved n g h = sound_states _ (λ i l. live_jumps (block_jumps n) (lane_of 
 
 -- ---- what from_lanes and load accept
 pub sound_lanes : (lanes : List Xoshiro256pp) → length lanes ≡ 8 → ((i : ℕ) → i < 8 → scalar.Words (state_of (get_or lanes i no_lane))) → (from_lanes lanes).refusal ≡ 0
-    → Sound (from_lanes lanes).rng
+    → Sound (from_lanes lanes).value
 unfolding from_lanes of_lanes is_valid
 sound_lanes lanes e w ok = go (every is_valid lanes) refl ok
   where
-    answer : Bool → LanesAnswer
-    answer b = cond b (record { refusal = 0; rng = of_lanes lanes }) (record { refusal = 3; rng = blank8 })
+    answer : Bool → Answer Xoshiro256ppX8
+    answer b = cond b (record { refusal = 0; value = of_lanes lanes }) (record { refusal = 3; value = blank8 })
 
     nonzero : (b : Bool) → T (not b) → b ≡ false
     nonzero true t = absurd t
     nonzero false t = refl
 
-    go : (b : Bool) → every is_valid lanes ≡ b → (answer b).refusal ≡ 0 → Sound (answer b).rng
+    go : (b : Bool) → every is_valid lanes ≡ b → (answer b).refusal ≡ 0 → Sound (answer b).value
     go true v z =
         sound_states _ (λ i l. record {
           words = w i l;
@@ -99,7 +99,7 @@ sound_lanes lanes e w ok = go (every is_valid lanes) refl ok
         })
     go false v z = absurd (omega (arith, z))
 
-pub sound_loaded : (s : List ℕ) → Bytes s → (loaded s).refusal ≡ 0 → Sound (loaded s).rng
+pub sound_loaded : (s : List ℕ) → Bytes s → (loaded s).refusal ≡ 0 → Sound (loaded s).value
 unfolding lane_in
 sound_loaded s b ok =
     let a = load-accepted s ok in

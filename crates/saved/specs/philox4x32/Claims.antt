@@ -27,19 +27,19 @@ settled g = cond g.waiting g (sought g g.counter)
 
 -- saving then loading restores each generator whose waiting words are the upper words of its numbered group
 abbrev pub LoadSaved : Type 0
-LoadSaved = (g : Philox4x32X8) → Words g → Numbered g → loaded (form_of g) ≡ record { refusal = 0; rng = settled g }
+LoadSaved = (g : Philox4x32X8) → Words g → Numbered g → loaded (form_of g) ≡ record { refusal = 0; value = settled g }
 
 -- saving then loading restores the generator, words that don't wait included
 abbrev pub Restored : Philox4x32X8 → Type 0
-Restored g = loaded (form_of g) ≡ record { refusal = 0; rng = g }
+Restored g = loaded (form_of g) ≡ record { refusal = 0; value = g }
 
 -- every generator that is loaded has the words of its numbered group
 abbrev pub LoadNumbered : Type 0
-LoadNumbered = (s : List ℕ) → Numbered (loaded s).rng
+LoadNumbered = (s : List ℕ) → Numbered (loaded s).value
 
 -- loading then saving gives the same bytes, for every accepted form
 abbrev pub SaveLoaded : Type 0
-SaveLoaded = (s : List ℕ) → ((i : ℕ) → slice_index s i < 256) → (loaded s).refusal ≡ 0 → form_of (loaded s).rng ≡ s
+SaveLoaded = (s : List ℕ) → ((i : ℕ) → slice_index s i < 256) → (loaded s).refusal ≡ 0 → form_of (loaded s).value ≡ s
 
 -- the upper words of the numbered group of a form
 abbrev pub upper_in : List ℕ → List ℕ

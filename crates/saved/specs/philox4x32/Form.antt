@@ -1,11 +1,11 @@
 -- The saved form of a Philox generator (the scope document, "Saved forms and the host", as request K6 changed it).
 use Rattle.std.specs.Prelude.{ℕ, ◌+◌, Bool, false, cond, not, ◌&&◌, ◌||◌, List, [], ◌∷◌, ◌++◌, length, replicate, ◌==◌, nat_eq, slice_index}
 use Rattle.base.specs.Every.{every}
+use Rattle.base.specs.Refusal.{Answer}
 use Rattle.base.specs.Table.{table}
 use Rattle.saved.specs.fields.Fields.{size_of, laid_out, fields}
 use Rattle.philox.specs.x8.Machine.{upper_at, none8}
 use Rattle.philox.specs.declared.x8.Philox4x32X8.{Philox4x32X8}
-use Rattle.saved.specs.declared.philox4x32.Loaded.{Loaded}
 
 -- key 4 + 4, stream 8, counter 8, mark 8, waiting words 64, the first block of their group 8
 abbrev pub layout : List ℕ
@@ -56,14 +56,17 @@ unfoldable pub is_form : ℕ → List ℕ → ℕ → Bool
 is_form mark pending number = mark == 1 || (mark == 0 && every (λ x. nat_eq x 0) pending && number == 0)
 
 -- a refusal has zero bits
-abbrev pub refused : ℕ → Loaded
-refused n = record { refusal = n; rng = record { key = 0 ∷ 0 ∷ []; stream = 0; counter = 0; waiting = false; pending = none8; first = 0 } }
+abbrev pub blank : Philox4x32X8
+blank = record { key = 0 ∷ 0 ∷ []; stream = 0; counter = 0; waiting = false; pending = none8; first = 0 }
 
-unfoldable pub of_form : List ℕ → Loaded
-of_form f = cond (is_form (mark_in f) (waiting_in f) (number_in f)) (record { refusal = 0; rng = of_fields f }) (refused 2)
+abbrev pub refused : ℕ → Answer Philox4x32X8
+refused n = record { refusal = n; value = blank }
+
+unfoldable pub of_form : List ℕ → Answer Philox4x32X8
+of_form f = cond (is_form (mark_in f) (waiting_in f) (number_in f)) (record { refusal = 0; value = of_fields f }) (refused 2)
 
 -- another length is refused with 1; then another mark than 0 or 1, or mark 0 with a word that would wait or a number, with 2
-unfoldable pub parsed : List ℕ → Loaded
+unfoldable pub parsed : List ℕ → Answer Philox4x32X8
 parsed s = cond (length s == size_of layout) (of_form (fields layout s)) (refused 1)
 
 -- ---- then whether the words that wait, if any do, are the upper words of the numbered group
@@ -71,5 +74,5 @@ unfoldable pub is_numbered : Philox4x32X8 → Bool
 is_numbered g = not g.waiting || every (λ i. nat_eq (slice_index g.pending i) (slice_index (upper_at g g.first) i)) (table 8 (λ i. i))
 
 -- other words are refused with 14 (where a form is refused already, none wait)
-unfoldable pub loaded : List ℕ → Loaded
-loaded s = cond (is_numbered (parsed s).rng) (parsed s) (refused 14)
+unfoldable pub loaded : List ℕ → Answer Philox4x32X8
+loaded s = cond (is_numbered (parsed s).value) (parsed s) (refused 14)

@@ -23,7 +23,7 @@ NoZeroLane g = (i : ℕ) → i < 8 → all_zero (lane_of g i) ≡ false
 
 -- saving then loading restores the generator
 abbrev pub Restored : Xoshiro256ppX8 → Type 0
-Restored g = loaded (form_of g) ≡ record { refusal = 0; rng = g }
+Restored g = loaded (form_of g) ≡ record { refusal = 0; value = g }
 
 -- as it does one with no zero lane
 abbrev pub LoadSaved : Type 0
@@ -31,7 +31,7 @@ LoadSaved = (g : Xoshiro256ppX8) → Words g → NoZeroLane g → Restored g
 
 -- loading then saving gives the same bytes, for every accepted form
 abbrev pub SaveLoaded : Type 0
-SaveLoaded = (s : List ℕ) → ((i : ℕ) → slice_index s i < 256) → (loaded s).refusal ≡ 0 → form_of (loaded s).rng ≡ s
+SaveLoaded = (s : List ℕ) → ((i : ℕ) → slice_index s i < 256) → (loaded s).refusal ≡ 0 → form_of (loaded s).value ≡ s
 
 -- the refusals: 1 for another length; else 3 for a lane of four zero words; else none
 pub record Refused (s : List ℕ) : Type 0 where

@@ -1,10 +1,10 @@
 -- The saved form of an eight-lane generator (the scope document, "Saved forms and the host").
 use Rattle.std.specs.Prelude.{ℕ, ◌+◌, cond, List, [], ◌∷◌, ◌++◌, length, replicate, ◌==◌, slice_index}
+use Rattle.base.specs.Refusal.{Answer}
 use Rattle.base.specs.Table.{table}
 use Rattle.saved.specs.fields.Fields.{size_of, laid_out, fields}
 use Rattle.xoshiro.specs.declared.scalar.Xoshiro256pp.{Xoshiro256pp}
 use Rattle.xoshiro.specs.x8.Calls.{from_lanes, blank8}
-use Rattle.xoshiro.specs.declared.x8.LanesAnswer.{LanesAnswer}
 use Rattle.xoshiro.specs.declared.x8.Xoshiro256ppX8.{Xoshiro256ppX8}
 
 -- 32 words of eight bytes
@@ -26,5 +26,5 @@ unfoldable pub lane_in : List ℕ → ℕ → Xoshiro256pp
 lane_in f i = record { s = slice_index f i ∷ slice_index f (8 + i) ∷ slice_index f (16 + i) ∷ slice_index f (24 + i) ∷ [] }
 
 -- load: another length is refused with 1, a lane of four zero words with 3
-unfoldable pub loaded : List ℕ → LanesAnswer
-loaded s = cond (length s == size_of layout) (from_lanes (table 8 (lane_in (fields layout s)))) (record { refusal = 1; rng = blank8 })
+unfoldable pub loaded : List ℕ → Answer Xoshiro256ppX8
+loaded s = cond (length s == size_of layout) (from_lanes (table 8 (lane_in (fields layout s)))) (record { refusal = 1; value = blank8 })

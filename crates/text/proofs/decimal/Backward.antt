@@ -53,17 +53,24 @@ abbrev pub Backward10 : (v k at : ℕ) (l : List ℕ) (w j : ℕ) (out : List �
 Backward10 = Backward 10 (λ d. 48 + d)
 
 module _ {v k at : ℕ} {l : List ℕ} where
-  pub back_two : {w a b : ℕ} {out : List ℕ} (j : ℕ) → Backward10 v k at l w j out → 2 ≤ j → a ≡ 48 + w % 100 % 10 → b ≡ 48 + w % 100 / 10
-      → Backward10 v k at l (w / 100) (j - 2) (set (set out (at + (j - 2) + 1) a) (at + (j - 2)) b)
-  back_two zero B h ea eb = absurd (omega arith)
-  back_two (suc zero) B h ea eb = absurd (omega arith)
-  back_two {w} {a} {b} {out} (suc (suc j)) B h ea eb =
-      let n : suc (suc j) - 2 ≡ j = omega arith in
+  pub back_upto : {w j k' : ℕ} {out : List ℕ} → j ≡ k' → Backward10 v k at l w j out → Backward10 v k at l w k' out
+  back_upto {w} {j} {k'} {out} e B = subst (λ (n : ℕ). Backward10 v k at l w n out) e B
+
+  -- the pair of digits behind i pairs and an odd digit, or none
+  pub back_pair : {w a b : ℕ} {out : List ℕ} (odd i : ℕ) → Backward10 v k at l w (odd + 2 * i) out → 0 < i → a ≡ 48 + w % 100 % 10
+      → b ≡ 48 + w % 100 / 10
+      → Backward10 v k at l (w / 100) (odd + 2 * (i - 1)) (set (set out (at + odd + 2 * (i - 1) + 1) a) (at + odd + 2 * (i - 1)) b)
+  back_pair odd zero B h ea eb = absurd (omega arith)
+  back_pair {w} {a} {b} {out} odd (suc i) B h ea eb =
+      let j : ℕ = odd + 2 * i in
+      let n : suc i - 1 ≡ i = omega arith in
+      let m : odd + 2 * suc i ≡ suc (suc j) = omega arith in
       let q : w / 100 ≡ w / 10 / 10 = omega arith in
       let x : a ≡ 48 + w % 10 = omega arith in
       let y : b ≡ 48 + w / 10 % 10 = omega arith in
-      let s : at + j + 1 ≡ at + suc j = omega arith in
-      rw (n, q, x, y, s) (back_one (back_one B))
+      let s : at + odd + 2 * i + 1 ≡ at + suc j = omega arith in
+      let t : at + odd + 2 * i ≡ at + j = omega arith in
+      rw (n, q, x, y, s, t) (back_one (back_one (back_upto m B)))
 
   pub back_last : {w j d r : ℕ} {out : List ℕ} → Backward10 v k at l w j out → j ≡ 1 → d ≡ 48 + w % 10 → r ≡ at + k → Put (padded k v) at l (set out at d) r
   back_last {w} {j} {d} {r} {out} B z x e =

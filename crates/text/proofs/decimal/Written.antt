@@ -1,9 +1,8 @@
 -- Reading what was written: a number's digits in front of a byte that is no digit. Assumes nothing.
 use Rattle.std.proofs.Common.{◌≡◌, ℕ, zero, suc, ◌+◌, ◌-◌, ◌*◌, ◌/◌, ◌%◌, ◌<◌, ◌≤◌, List, ◌∷◌, ◌++◌, length, refl, ap, ◌∙◌, append_assoc, le_refl, arith, eq-eqb, ne_eqb, le-leb}
 use native.Mathlib.Decide.{dec_lt}
-use Rattle.text.specs.declared.decimal.Number.TheVariants.{Value}
 use Rattle.text.specs.decimal.Decimal.{decimal}
-use Rattle.text.specs.decimal.Number.{number_on, number_from}
+use Rattle.text.specs.decimal.Number.{read, number_on, number_from}
 use Rattle.text.proofs.decimal.Decimal.{decimal_small, decimal_more, length_more}
 use Rattle.text.proofs.decimal.Reading.{extends_yes}
 
@@ -38,6 +37,6 @@ read-digits (suc k) top stop i n s hk hs ht = go (dec_lt n 10) (λ h. read-digit
         ∙ rw (q, l) refl
 
 -- a number that is written is read
-pub read_written : (top stop i n : ℕ) (s : List ℕ) → stop < 48 → n ≤ top → number_from top stop i (decimal n ++ (stop ∷ s)) ≡ Value n (i + length (decimal n) + 1)
+pub read_written : (top stop i n : ℕ) (s : List ℕ) → stop < 48 → n ≤ top → number_from top stop i (decimal n ++ (stop ∷ s)) ≡ read n (i + length (decimal n) + 1)
 unfolding number_on
 read_written top stop i n s hs ht = read-digits n top stop i n (stop ∷ s) (le_refl n) hs ht ∙ rw (eq-eqb stop stop refl) refl

@@ -1,7 +1,10 @@
 -- Laws of the writers, piece by piece. Assumes nothing.
-use Rattle.std.proofs.Common.{◌≡◌, ℕ, zero, suc, ◌+◌, ◌-◌, ◌/◌, ◌%◌, ◌^◌, ◌<◌, ◌≤◌, Bool, true, false, cond, eqb, leb, List, [], ◌∷◌, length, set, refl, ◌∙◌, subst, arith, length-append, le-ltb, lt-ltb, eq-eqb, ne_eqb, le-leb}
+use Rattle.std.proofs.Common.{◌++◌, take, drop, length-drop, append_assoc, sym, ap, ◌≡◌, ℕ, zero, suc, ◌+◌, ◌-◌, ◌/◌, ◌%◌, ◌^◌, ◌<◌, ◌≤◌, Bool, true, false, cond, eqb, leb, List, [], ◌∷◌, length, set, refl, ◌∙◌, arith, length-append, le-ltb, lt-ltb, eq-eqb, ne_eqb, le-leb}
 use borrow.Author.Tests.{lt-leb, eqb-false}
-use Rattle.base.proofs.Put.{put_nothing, put_one, put_byte, put_then, put_length, given_yes, given_no, given_room}
+use borrow.Rule.Slice.PartMut.{put_mid, post_of, Post-is}
+use lib.Seq.{sets-eq, length-take-le}
+use Rattle.base.specs.Stored.{stored}
+use Rattle.base.proofs.Put.{put_nothing, put_then, put_length, given_yes, given_no, given_room}
 use Rattle.base.specs.Put.{Put, given}
 use Rattle.text.specs.decimal.Decimal.{decimal}
 use Rattle.text.proofs.decimal.Decimal.{length_last, decimal-long}
@@ -59,26 +62,28 @@ pub record Stripping (t : ℕ) (l l' : List ℕ) (w k : ℕ) : Type 0 where
 pub strip_more : {t w k : ℕ} {l l' : List ℕ} → Stripping t l l' w k → 0 < k → w % 16 ≡ 0 → Stripping t l l' (w / 16) (k - 1)
 strip_more {t} {w} {k} S p e = record { same = S.same; upto = omega (arith, S.upto); left = S.left ∙ stripped-step k w p e }
 
-pub strip_put : {t w k at r : ℕ} {l l' l'' : List ℕ} → Stripping t l l' w k → 0 < k → (w % 16 ≡ 0 → ⊥) → Put (hex_padded k w) at l' l'' r → Put (stripped 13 t) at l l'' r
-strip_put {t} {w} {k} S p h q = rw (S.left, stripped_here k w p h, ← S.same) q
+pub strip_put : {t w k n at r : ℕ} {l l' l'' : List ℕ} → Stripping t l l' w k → n ≡ k → 0 < k → (w % 16 ≡ 0 → ⊥) → Put (hex_padded n w) at l' l'' r → Put (stripped 13 t) at l l'' r
+strip_put {t} {w} {k} S e p h q = rw (S.left, stripped_here k w p h, ← e, ← S.same) q
 
 pub strip_end : {t w k : ℕ} {l l' : List ℕ} (at : ℕ) → Stripping t l l' w k → k ≡ 0 → Put (stripped 13 t) at l l' at
 strip_end {t} {w} {k} {l} {l'} at S z = rw (S.left, z, stripped-none w, S.same) (put_nothing at l)
 
--- ---- short texts, byte by byte
-pub two : (a b at : ℕ) (l : List ℕ) → Put (a ∷ b ∷ []) at l (set (set l at a) (at + 1) b) (at + 2)
-two a b at l =
-    let e : at + 1 + 1 ≡ at + 2 = omega arith in
-    subst (λ (r : ℕ). Put (a ∷ b ∷ []) at l (set (set l at a) (at + 1) b) r) e (put_byte {t = a ∷ []} b (put_one at a l))
+-- ---- short texts: n bytes copied to a part of n places
+pub all_written : (at n : ℕ) {l t new : List ℕ} → at + n ≤ length l → length new ≡ length (take (at + n - at) (drop at l)) → new ≡ t
+    → Put t at l (put_mid at (at + n - at) l new) (at + n)
+unfolding stored
+all_written at n {l} {t} {new} h e q =
+    let m : length t ≡ n = omega (arith, e, ap length q, length-take-le (at + n - at) (drop at l) (omega (arith, length-drop at l))) in
+    let room : at + length t ≤ length l = omega arith in
+    let rest : post_of at (at + n - at) l ≡ drop (at + length t) l = Post-is at (at + n) l (omega arith) ∙ ap (λ (k : ℕ). drop (at + k) l) (sym m) in
+    record {
+      next = ap (λ (k : ℕ). at + k) (sym m);
+      made = (λ i. take at l ++ (q i ++ rest i)) ∙ sym (append_assoc (take at l) t (drop (at + length t) l)) ∙ sym (sets-eq t l at room);
+    }
 
-pub three : (a b c at : ℕ) (l : List ℕ) → Put (a ∷ b ∷ c ∷ []) at l (set (set (set l at a) (at + 1) b) (at + 2) c) (at + 3)
-three a b c at l =
-    let e : at + 2 + 1 ≡ at + 3 = omega arith in
-    subst (λ (r : ℕ). Put (a ∷ b ∷ c ∷ []) at l (set (set (set l at a) (at + 1) b) (at + 2) c) r) e (put_byte {t = a ∷ b ∷ []} c (two a b at l))
-
-pub minus_yes : (at : ℕ) (l : List ℕ) {s : Bool} → s ≡ true → Put (minus s) at l (set l at 45) (at + 1)
+pub minus_yes : {at r : ℕ} {l l' : List ℕ} {s : Bool} → s ≡ true → Put (45 ∷ []) at l l' r → Put (minus s) at l l' r
 unfolding minus
-minus_yes at l e = rw e (put_one at 45 l)
+minus_yes e p = rw e p
 
 pub minus_no : (at : ℕ) (l : List ℕ) {s : Bool} → s ≡ false → Put (minus s) at l l at
 unfolding minus
@@ -94,9 +99,9 @@ pub fraction-none : (t at : ℕ) (l : List ℕ) → t ≡ 0 → Put (fraction t)
 unfolding fraction
 fraction-none t at l e = rw (eq-eqb t 0 e) (put_nothing at l)
 
-pub fraction-some : {at r : ℕ} {l l' : List ℕ} (t : ℕ) → (t ≡ 0 → ⊥) → Put (stripped 13 t) (at + 1) (set l at 46) l' r → Put (fraction t) at l l' r
+pub fraction-some : {at m r : ℕ} {l l' l'' : List ℕ} (t : ℕ) → (t ≡ 0 → ⊥) → Put (46 ∷ []) at l l' m → Put (stripped 13 t) m l' l'' r → Put (fraction t) at l l'' r
 unfolding fraction
-fraction-some {at} {r} {l} t h p = rw (ne_eqb t 0 h) (put_then {t = 46 ∷ []} (put_one at 46 l) p)
+fraction-some t h p q = rw (ne_eqb t 0 h) (put_then {t = 46 ∷ []} p q)
 
 pub fraction_few : (t : ℕ) → length (fraction t) ≤ 14
 unfolding fraction

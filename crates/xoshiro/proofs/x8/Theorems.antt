@@ -4,6 +4,7 @@ use Rattle.base.specs.Iterate.{iterate}
 use Rattle.base.specs.Table.{table}
 use Rattle.base.specs.Every.{every}
 use Rattle.base.specs.Quad.{column, rows_of}
+use Rattle.base.specs.Refusal.{Answer}
 use Rattle.base.proofs.Quad.{column-rows_of, list_four}
 use Rattle.xoshiro_steps.specs.Xoshiro256pp.{State, step}
 use Rattle.xoshiro.specs.scalar.Calls.{state_of, generator, accepted}
@@ -14,7 +15,6 @@ use Rattle.xoshiro.specs.x8.Lanes.{rows_in, lane_of, of_states}
 use Rattle.xoshiro.specs.x8.Calls.{words_of, next_of, drawn, placed, moved_blocks, is_valid, of_lanes, from_lanes, blank8, no_lane}
 use Rattle.xoshiro.specs.x8.Claims.{LanesStep, LanesSkip, LanesStart, LanesMove, NothingMoves, LanesBack, EightWords}
 use Rattle.xoshiro.specs.declared.x8.Xoshiro256ppX8.{Xoshiro256ppX8}
-use Rattle.xoshiro.specs.declared.x8.LanesAnswer.{LanesAnswer}
 use Rattle.xoshiro.proofs.x8.Lanes.{lane_accepted, own-lanes}
 
 -- lane i of the generator whose lanes are f
@@ -44,17 +44,17 @@ unfolding moved_blocks iterate
 nothing_moves g w = λ k. record { rng = own-lanes g w k; jumps = 0 }
 
 -- an answer without a refusal number holds the lanes
-abbrev answer : Bool → List Xoshiro256pp → LanesAnswer
-answer b lanes = cond b (record { refusal = 0; rng = of_lanes lanes }) (record { refusal = 3; rng = blank8 })
+abbrev answer : Bool → List Xoshiro256pp → Answer Xoshiro256ppX8
+answer b lanes = cond b (record { refusal = 0; value = of_lanes lanes }) (record { refusal = 3; value = blank8 })
 
-answered : (b : Bool) (lanes : List Xoshiro256pp) → (answer b lanes).refusal ≡ 0 → (answer b lanes).rng ≡ of_lanes lanes
+answered : (b : Bool) (lanes : List Xoshiro256pp) → (answer b lanes).refusal ≡ 0 → (answer b lanes).value ≡ of_lanes lanes
 answered true lanes h = refl
 answered false lanes h = absurd (omega arith)
 
 pub lanes_back : LanesBack
 unfolding from_lanes of_lanes
 lanes_back lanes i h four ok =
-    lane_accepted (from_lanes lanes).rng i h
+    lane_accepted (from_lanes lanes).value i h
     ∙ ap (λ (g : Xoshiro256ppX8). accepted (generator (lane_of g i))) (answered (every is_valid lanes) lanes ok)
     ∙ ap (λ (s : State). accepted (generator s)) (lane_of_states (λ j. state_of (get_or lanes j no_lane)) i h)
     ∙ ap (λ (l : List ℕ). accepted (record { s = l })) (list_four 0 (get_or lanes i no_lane).s four)

@@ -1,11 +1,11 @@
 -- What each call on a scalar generator answers, as the declared records.
 use Rattle.std.specs.Prelude.{ℕ, cond, List, [], ◌∷◌}
 use Rattle.base.specs.Quad.{quad_of, list_of}
+use Rattle.base.specs.Refusal.{Answer}
 use Rattle.xoshiro_steps.specs.Xoshiro256pp.{State, output, step, steps, jumped, highest_of, jumps, all_zero}
 use Rattle.xoshiro.specs.scalar.Seeded.{seeded}
 use Rattle.xoshiro.specs.declared.scalar.Xoshiro256pp.{Xoshiro256pp}
 use Rattle.xoshiro.specs.declared.scalar.Draw.{Draw}
-use Rattle.xoshiro.specs.declared.scalar.Answer.{Answer}
 use Rattle.xoshiro.specs.declared.scalar.Jump.{Jump}
 
 -- a generator's state, and back
@@ -16,17 +16,17 @@ abbrev pub generator : State → Xoshiro256pp
 generator s = record { s = list_of s }
 
 -- an accepted answer; a refusal with its number, and zero bits
-abbrev pub accepted : Xoshiro256pp → Answer
-accepted g = record { refusal = 0; rng = g }
+abbrev pub accepted : Xoshiro256pp → Answer Xoshiro256pp
+accepted g = record { refusal = 0; value = g }
 
 abbrev pub blank : Xoshiro256pp
 blank = record { s = 0 ∷ 0 ∷ 0 ∷ 0 ∷ [] }
 
-abbrev pub refused : ℕ → Answer
-refused n = record { refusal = n; rng = blank }
+abbrev pub refused : ℕ → Answer Xoshiro256pp
+refused n = record { refusal = n; value = blank }
 
 -- from_state: four zero words are refused with 3
-unfoldable pub checked : List ℕ → Answer
+unfoldable pub checked : List ℕ → Answer Xoshiro256pp
 checked s = cond (all_zero (quad_of s)) (refused 3) (accepted (record { s = s }))
 
 abbrev pub seeded_by : ℕ → Xoshiro256pp

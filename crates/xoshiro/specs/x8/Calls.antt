@@ -3,17 +3,16 @@ use Rattle.std.specs.Prelude.{ℕ, ◌+◌, ◌*◌, ◌%◌, ◌^◌, Bool, con
 use Rattle.base.specs.Engine.{Engine}
 use Rattle.base.specs.Every.{every}
 use Rattle.base.specs.Iterate.{iterate}
+use Rattle.base.specs.Refusal.{Answer}
 use Rattle.xoshiro_steps.specs.Xoshiro256pp.{jumps, all_zero}
 use Rattle.xoshiro.specs.scalar.Seeded.{seeded}
 use Rattle.xoshiro.specs.scalar.Calls.{state_of, generator, accepted, refused}
 use Rattle.xoshiro.specs.declared.scalar.Xoshiro256pp.{Xoshiro256pp}
-use Rattle.xoshiro.specs.declared.scalar.Answer.{Answer}
 use Rattle.xoshiro.specs.rows.Lanes.{outputs, stepped}
 use Rattle.xoshiro.specs.x8.Lanes.{rows_in, of_rows, lane_of, of_states}
 use Rattle.xoshiro.specs.declared.x8.Xoshiro256ppX8.{Xoshiro256ppX8}
 use Rattle.xoshiro.specs.declared.x8.Draw.{Draw}
 use Rattle.xoshiro.specs.declared.x8.Placed.{Placed}
-use Rattle.xoshiro.specs.declared.x8.LanesAnswer.{LanesAnswer}
 
 -- what a draw hands out, the generator after it, and the draw
 unfoldable pub words_of : Xoshiro256ppX8 → List ℕ
@@ -56,9 +55,9 @@ of_lanes lanes = of_states (λ i. state_of (slice_index_or lanes i no_lane))
 abbrev pub blank8 : Xoshiro256ppX8
 blank8 = record { s0 = replicate 8 0; s1 = replicate 8 0; s2 = replicate 8 0; s3 = replicate 8 0 }
 
-unfoldable pub from_lanes : List Xoshiro256pp → LanesAnswer
-from_lanes lanes = cond (every is_valid lanes) (record { refusal = 0; rng = of_lanes lanes }) (record { refusal = 3; rng = blank8 })
+unfoldable pub from_lanes : List Xoshiro256pp → Answer Xoshiro256ppX8
+from_lanes lanes = cond (every is_valid lanes) (record { refusal = 0; value = of_lanes lanes }) (record { refusal = 3; value = blank8 })
 
 -- ---- lane: a number of 8 or more is refused with 6
-unfoldable pub lane_call : Xoshiro256ppX8 → ℕ → Answer
+unfoldable pub lane_call : Xoshiro256ppX8 → ℕ → Answer Xoshiro256pp
 lane_call g i = cond (nat_lt i 8) (accepted (generator (lane_of g i))) (refused 6)

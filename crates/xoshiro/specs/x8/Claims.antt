@@ -38,7 +38,7 @@ NothingMoves = (g : Xoshiro256ppX8) → Eights g → moved_blocks (2 ^ 61) g ≡
 -- accepted lanes are handed back by `lane`
 abbrev pub LanesBack : Type 0
 LanesBack = (lanes : List Xoshiro256pp) (i : ℕ) → i < 8 → length (get_or lanes i no_lane).s ≡ 4 → (from_lanes lanes).refusal ≡ 0
-    → lane_call (from_lanes lanes).rng i ≡ accepted (slice_index_or lanes i no_lane)
+    → lane_call (from_lanes lanes).value i ≡ accepted (slice_index_or lanes i no_lane)
 
 -- a draw has eight words, on every record
 abbrev pub EightWords : Type 0

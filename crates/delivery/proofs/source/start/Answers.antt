@@ -8,10 +8,9 @@ use Rattle.delivery.proofs.source.start.Goals as goal
 pub returns-then-engine-eq1 : goal.returns-then-engine-eq1
 returns-then-engine-eq1 c =
     let a = c.args in
-    let at = c.skip-xoshiro.ensures ∙ ap (λ (x : Placed). xoshiro.skipped a.first x.rng) c.from_seed_block.ensures in
-    started_1 c.if-engine-eq1.true a.seed a.block a.first at c.new-philox.ensures
+    started_1 c.if-engine-eq1.true a.seed a.block a.first (c.skip.ensures ∙ ap (λ (x : Placed). xoshiro.skipped a.first x.rng) c.from_seed_block.ensures)
 
 pub returns : goal.returns
 returns c =
     let a = c.args in
-    started_2 c.if-engine-eq1.false a.seed a.block a.first (c.skip-philox.ensures ∙ ap (philox.skipped a.first) c.new.ensures)
+    started_2 c.if-engine-eq1.false a.seed a.block a.first (c.skip-2.ensures ∙ ap (philox.skipped a.first) c.new.ensures)

@@ -10,4 +10,4 @@ pub returns : goal.returns
 unfolding of_bits dyadic round sub div
 returns c =
     let a = c.args in
-    either-made a.nonzero a.x c.ranges.x.fits c.select_f64-less.ensures
+    either-made a.nonzero a.x c.ranges.x.fits c.select-less.ensures

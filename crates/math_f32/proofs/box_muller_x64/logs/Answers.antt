@@ -5,11 +5,11 @@ use Rattle.math.specs.BoxMuller.{minus_twice}
 use Rattle.math.specs.Ln.{ln}
 use Rattle.math_f32.proofs.box_muller_x64.logs.Goals as goal
 
-pub loop-i-preserved : goal.loop-i-preserved
+pub loop-x-preserved : goal.loop-x-preserved
 unfolding minus_twice neg of_bits round
-loop-i-preserved c =
-    let w = c.loop-i.invariant in
+loop-x-preserved c =
+    let w = c.loop-x.invariant in
     mapped_more w (omega arith) (ap (minus_twice binary32) (c.lane.ensures ∙ ap (ln binary32) (w.left _ (omega arith))))
 
 pub returns : goal.returns
-returns c = tabled_end c.loop-i.invariant.tabled c.loop-i-test.false
+returns c = tabled_end c.loop-x.invariant.tabled (omega (arith, c.requires, c.loop-x-test.false))

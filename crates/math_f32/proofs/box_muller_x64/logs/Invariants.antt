@@ -5,5 +5,5 @@ use Rattle.math.specs.BoxMuller.{minus_twice}
 use Rattle.math.specs.Ln.{ln}
 use Rattle.math_f32.proofs.box_muller_x64.logs.Given as goal
 
-abbrev pub invariant-loop-i : goal.invariant-loop-i
-invariant-loop-i l = Mapped 64 (λ j. minus_twice binary32 (ln binary32 (get_or l.initial.u j nan))) nan l.initial.u l.u l.i
+abbrev pub invariant-loop-x : goal.invariant-loop-x
+invariant-loop-x l = Mapped 64 (λ j. minus_twice binary32 (ln binary32 (get_or l.initial.x-items j nan))) nan l.initial.x-items l.x-items l.x-index

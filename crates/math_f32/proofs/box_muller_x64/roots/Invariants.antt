@@ -4,5 +4,5 @@ use Rattle.base.proofs.Table.{Mapped}
 use Rattle.math.specs.Sqrt.{sqrt}
 use Rattle.math_f32.proofs.box_muller_x64.roots.Given as goal
 
-abbrev pub invariant-loop-i : goal.invariant-loop-i
-invariant-loop-i l = Mapped 64 (λ j. sqrt binary32 (get_or l.initial.v j nan)) nan l.initial.v l.v l.i
+abbrev pub invariant-loop-x : goal.invariant-loop-x
+invariant-loop-x l = Mapped 64 (λ j. sqrt binary32 (get_or l.initial.x-items j nan)) nan l.initial.x-items l.x-items l.x-index

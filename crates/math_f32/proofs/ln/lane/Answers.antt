@@ -23,5 +23,5 @@ pub returns : goal.returns
 unfolding ln halved of_bits round
 returns c =
     c.reduced.ensures
-    ∙ lane _ _ _ _ c.from_bits_f32-m.ensures c.select_f32.ensures c.exponent-ef.ensures
+    ∙ lane _ _ _ _ c.from_bits_f32-m.ensures c.select.ensures c.exponent-ef.ensures
     ∙ ap ln_bits32 c.to_bits_f32-bits.ensures

@@ -2,7 +2,7 @@ use Rattle.std.proofs.Common.{ℕ, ◌+◌, ◌/◌, ◌%◌, eqb, ap, ◌∙◌
 use lib.Ieee.{binary32, of_bits, round}
 use Rattle.math.proofs.Signs.{sin_fits, cos_fits, turned}
 use Rattle.math.specs.Turns.{shifted, quarter, angle, sin_poly, cos_poly, turned_sin, turned_cos, sin_turns, cos_turns}
-use Rattle.math_f32.specs.sincos_turns.Lanes.{lane_of}
+use Rattle.math.specs.Lanes.{lane_of}
 use Rattle.math_f32.proofs.sincos_turns.lane.Goals as goal
 
 pub returns : goal.returns
@@ -15,6 +15,6 @@ returns c =
     let h = sin_fits binary32 (angle binary32 t) in
     let k = cos_fits binary32 (angle binary32 t) in
     λ i. record {
-      cos = (turned binary32 (eqb ((q + 1) / 2 % 2) 1) (eqb (q % 2) 1) p r h k c.sin_poly-s.ensures c.cos_poly-c.ensures c.select_f32-co.ensures c.sign-2.ensures ∙ ap (λ (b : ℕ). turned_cos (b % 4) p r) c.to_bits_f32-q.ensures) i;
-      sin = (turned binary32 (eqb (q / 2 % 2) 1) (eqb (q % 2) 1) r p k h c.cos_poly-c.ensures c.sin_poly-s.ensures c.select_f32-so.ensures c.sign.ensures ∙ ap (λ (b : ℕ). turned_sin (b % 4) p r) c.to_bits_f32-q.ensures) i;
+      cos = (turned binary32 (eqb ((q + 1) / 2 % 2) 1) (eqb (q % 2) 1) p r h k c.sin_poly-s.ensures c.cos_poly-c.ensures c.select-co.ensures c.sign-2.ensures ∙ ap (λ (b : ℕ). turned_cos (b % 4) p r) c.to_bits_f32-q.ensures) i;
+      sin = (turned binary32 (eqb (q / 2 % 2) 1) (eqb (q % 2) 1) r p k h c.cos_poly-c.ensures c.sin_poly-s.ensures c.select-so.ensures c.sign.ensures ∙ ap (λ (b : ℕ). turned_sin (b % 4) p r) c.to_bits_f32-q.ensures) i;
     }

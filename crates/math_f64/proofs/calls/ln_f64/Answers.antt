@@ -1,17 +1,6 @@
-use Rattle.std.proofs.Common.{List, sym, ap, ◌∙◌}
-use lib.Ieee.{Float, of_bits}
-use Rattle.math_f64.specs.calls.Calls.{ln_call}
-use Rattle.math_f64.specs.declared.calls.Lanes.{Lanes}
+use Rattle.math.specs.Calls.{zeros, ln_call}
 use Rattle.math_f64.proofs.calls.ln_f64.Goals as goal
 
--- `math_f64::calls::ln_f64` meets its contract.
-accepted : List Float → Lanes
-accepted v = record { refusal = 0; value = v }
-
-pub returns-then-all_positive_normal : goal.returns-then-all_positive_normal
-unfolding ln_call accepted
-returns-then-all_positive_normal c = simp (sym c.all_positive_normal.ensures ∙ c.if-all_positive_normal.true) (ap accepted c.lanes-value.ensures)
-
-pub returns-else-all_positive_normal : goal.returns-else-all_positive_normal
-unfolding ln_call of_bits
-returns-else-all_positive_normal c = simp (sym c.all_positive_normal.ensures ∙ c.if-all_positive_normal.false)
+pub returns : goal.returns
+unfolding ln_call
+returns c = c.ln.ensures zeros

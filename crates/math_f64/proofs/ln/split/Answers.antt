@@ -29,4 +29,4 @@ parts b h v d x m e a p o q r =
 pub returns : goal.returns
 unfolding ratio bias of_bits round
 returns c =
-    parts _ (search rules) _ _ _ _ _ c.to_bits_f64-bits.ensures c.from_bits_f64-digits.ensures c.from_bits_f64.ensures c.select_f64-f.ensures c.select_f64-e.ensures
+    parts _ (search rules) _ _ _ _ _ c.to_bits_f64-bits.ensures c.from_bits_f64-digits.ensures c.from_bits_f64.ensures c.select-f.ensures c.select-e.ensures

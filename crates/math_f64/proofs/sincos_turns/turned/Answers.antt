@@ -12,6 +12,6 @@ returns c =
     let s = c.args.s in
     let k = c.args.c in
     λ i. record {
-      cos = (turned binary64 (eqb ((q + 1) / 2 % 2) 1) (eqb (q % 2) 1) s k (search rules) (search rules) refl refl c.select_f64-co.ensures c.sign-2.ensures ∙ ap (λ (b : ℕ). turned_cos (b % 4) s k) c.to_bits_f64-q.ensures) i;
-      sin = (turned binary64 (eqb (q / 2 % 2) 1) (eqb (q % 2) 1) k s (search rules) (search rules) refl refl c.select_f64-so.ensures c.sign.ensures ∙ ap (λ (b : ℕ). turned_sin (b % 4) s k) c.to_bits_f64-q.ensures) i;
+      cos = (turned binary64 (eqb ((q + 1) / 2 % 2) 1) (eqb (q % 2) 1) s k (search rules) (search rules) refl refl c.select-co.ensures c.sign-2.ensures ∙ ap (λ (b : ℕ). turned_cos (b % 4) s k) c.to_bits_f64-q.ensures) i;
+      sin = (turned binary64 (eqb (q / 2 % 2) 1) (eqb (q % 2) 1) k s (search rules) (search rules) refl refl c.select-so.ensures c.sign.ensures ∙ ap (λ (b : ℕ). turned_sin (b % 4) s k) c.to_bits_f64-q.ensures) i;
     }

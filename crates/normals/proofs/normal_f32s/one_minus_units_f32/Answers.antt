@@ -1,10 +1,8 @@
-use Rattle.base.proofs.Table.{tabled_end}
-use Rattle.base.proofs.Zip.{table-map}
+use Rattle.base.proofs.Arrays.{mapped}
 use Rattle.floats.specs.units.Unit.{one_minus_unit}
-use borrow.Author.Rules.{rules}
+use Rattle.std.proofs.Common.{rules}
 use lib.Ieee.{binary32}
-use mathlib.Core.Path.{◌∙◌}
 use Rattle.normals.proofs.normal_f32s.one_minus_units_f32.Goals as goal
 
 pub returns : goal.returns
-returns c = tabled_end c.loop-i.invariant c.loop-i-test.false ∙ table-map (one_minus_unit binary32) 0 8 c.args.h (search rules)
+returns c = mapped (one_minus_unit binary32) 0 c.map.ensures.items (search rules) (λ p q x y k. search rules)

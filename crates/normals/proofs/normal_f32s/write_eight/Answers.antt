@@ -1,7 +1,3 @@
-use lib.ListN.{length}
-use mathlib.Core.Path.{refl, ap, ◌∙◌}
-use Rattle.base.proofs.Stored.{stored-eights}
-use Rattle.base.proofs.Table.{length-table}
 use Rattle.fills.proofs.Buffered.{group-none, group_more}
 use Rattle.normals.proofs.normal_f32s.Eight.{eight-group}
 use Rattle.normals.proofs.normal_f32s.write_eight.Goals as goal
@@ -12,6 +8,5 @@ loop-j-init c = group-none
 pub loop-j-preserved : goal.loop-j-preserved
 loop-j-preserved c =
     let args = c.args in
-    let ev = c.eight_of.ensures in
-    group_more c.loop-j.invariant c.loop-j-test.true (stored-eights _ _ (ap length ev ∙ length-table 8 _) c.put_f32.ensures c.put_f32-in-loop-j.ensures refl refl)
-    (eight-group args.b.now args.g _ c.loop-j-test.true c.eight_u.ensures.first c.eight_u.ensures.second c.lanes.ensures.cosines c.lanes.ensures.sines ev c.eight_of-in-loop-j.ensures)
+    group_more c.loop-j.invariant c.loop-j-test.true c.put_halves.ensures
+    (eight-group args.b.now args.g _ c.loop-j-test.true c.eight_u.ensures.first c.eight_u.ensures.second c.lanes.ensures.cosines c.lanes.ensures.sines c.eight_of.ensures c.eight_of-in-loop-j.ensures)

@@ -9,7 +9,7 @@ pub returns-then-waiting : goal.returns-then-waiting
 unfolding drawn
 returns-then-waiting c =
     let g = c.args.g in (
-      waiting_drawn g c.if-waiting.true _ c.next_u64x8-d.ensures c.put_u64.ensures,
+      waiting_drawn g c.if-waiting.true _ c.next_u64x8-d.ensures c.put.ensures,
       ap (λ (x : Draw). x.label)
           c.next_u64x8-d.ensures,
     )

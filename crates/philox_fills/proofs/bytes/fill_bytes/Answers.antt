@@ -1,12 +1,18 @@
-use Rattle.fills.proofs.Bytes.{accepted-bytes, refused-bytes}
-use Rattle.philox.proofs.x8.Theorems.{eight-words}
-use mathlib.Core.Path.{sym}
 use Rattle.base.proofs.Refused.{unless-some}
+use Rattle.fills.proofs.Bytes.{accepted-bytes}
+use Rattle.philox.proofs.x8.Theorems.{eight-words}
+use Rattle.philox_fills.proofs.Refused.{number_some, refused_for}
+use Rattle.std.proofs.lemmas.Result.{err_from_is_err_and}
+use mathlib.Core.Path.{refl, sym}
 use Rattle.philox_fills.proofs.bytes.fill_bytes.Goals as goal
 
-pub returns-then-refusal-ne0 : goal.returns-then-refusal-ne0
-returns-then-refusal-ne0 c = (refused-bytes c.refusal_of-refusal.ensures c.if-refusal-ne0.true, sym (unless-some _ c.if-refusal-ne0.true _ _))
+pub returns-in_err-known : goal.returns-in_err-known
+returns-in_err-known c =
+    let p = err_from_is_err_and c.from_residual.result c.from_residual.ensures.1 in
+    let e = c.in_err-known.field-0.0 in
+    rw (p.1, p.2) (refused_for e c.in_err-known.ensures.refusal, sym (unless-some _ (number_some e) _ _))
 
 pub returns : goal.returns
 returns c =
-    (accepted-bytes eight-words c.refusal_of-refusal.ensures c.if-refusal-ne0.false c.fill_kind-f.ensures, c.label-label.ensures)
+    let F = accepted-bytes eight-words c.in_ok-known.ensures.refusal refl (rw c.in_ok-known.ensures.number at c.fill_kind.ensures) in
+    rw c.labelled.ensures (F, refl)

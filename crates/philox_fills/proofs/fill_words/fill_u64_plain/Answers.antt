@@ -14,7 +14,7 @@ loop-at-init c = start eight-words u64s_sound
 pub loop-at-preserved : goal.loop-at-preserved
 unfolding drawn iterate
 loop-at-preserved c =
-    more c.loop-at.invariant (search rules) _ (ap (λ (x : Draw). x.words) c.draw-d.ensures) c.put_u64.ensures (ap (λ (x : Draw). x.rng) c.draw-d.ensures)
+    more c.loop-at.invariant (search rules) _ (ap (λ (x : Draw). x.words) c.draw-d.ensures) c.put.ensures (ap (λ (x : Draw). x.rng) c.draw-d.ensures)
 
 pub returns : goal.returns
 returns c = finish c.loop-at.invariant (search rules)

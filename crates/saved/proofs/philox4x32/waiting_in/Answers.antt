@@ -1,7 +1,7 @@
-use Rattle.std.proofs.Common.{◌∙◌}
-use Rattle.base.proofs.Table.{tabled_end}
+use Rattle.base.proofs.Arrays.{from_fn}
 use Rattle.saved.proofs.philox4x32.Form.{waiting_read}
+use Rattle.std.proofs.Common.{◌∙◌, rules}
 use Rattle.saved.proofs.philox4x32.waiting_in.Goals as goal
 
 pub returns : goal.returns
-returns c = tabled_end c.loop-i.invariant c.loop-i-test.false ∙ waiting_read _
+returns c = from_fn _ _ (λ q i y l k. (search rules, search rules)) c.from_fn.ensures.items ∙ waiting_read _

@@ -1,15 +1,18 @@
-use Rattle.std.proofs.Common.{sym, arith}
-use Rattle.text.proofs.decimal.Reading.{extends_low, extends_high, extends-over, extends_last}
+use Rattle.std.proofs.Common.{arith}
+use Rattle.text.proofs.decimal.Reading.{extends_low, extends_high, extends-over, extends_yes, extended_no, extended_is}
 use Rattle.text.proofs.decimal.extended.Goals as goal
+use Rattle.text.proofs.decimal.extended.Goals.{then-b-lt48-via-then-b-lt48, then-b-lt48-via-else-b-lt48+then-b-gt57, then-b-lt48-via-else-b-lt48+else-b-gt57+then-v-top}
 
 pub returns-then-b-lt48 : goal.returns-then-b-lt48
-returns-then-b-lt48 c = sym (extends_low _ _ _ c.if-b-lt48.true)
+returns-then-b-lt48 c =
+    extended_no _ _ _ (elim c.then-b-lt48.branch [
+      | then-b-lt48-via-then-b-lt48 w ↦ extends_low _ _ _ w.if-b-lt48.true
+      | then-b-lt48-via-else-b-lt48+then-b-gt57 w ↦ extends_high _ _ _ w.if-b-lt48.false w.if-b-gt57.true
+      | then-b-lt48-via-else-b-lt48+else-b-gt57+then-v-top w ↦ extends-over _ _ _ w.if-b-lt48.false w.if-b-gt57.false (omega (arith, w.if-v-top.true))
+    ])
 
-pub returns-then-b-gt57 : goal.returns-then-b-gt57
-returns-then-b-gt57 c = sym (extends_high _ _ _ c.if-b-lt48.false c.if-b-gt57.true)
-
-pub returns-then-top-v : goal.returns-then-top-v
-returns-then-top-v c = sym (extends-over _ _ _ c.if-b-lt48.false c.if-b-gt57.false (omega arith))
+pub returns-then-d-top : goal.returns-then-d-top
+returns-then-d-top c = extended_no _ _ _ (extends-over _ _ _ c.if-b-lt48.false c.if-b-gt57.false (omega (arith, c.from-d.ensures)))
 
 pub returns : goal.returns
-returns c = extends_last _ _ _ _ c.wide.ensures c.if-b-lt48.false c.if-b-gt57.false c.if-top-v.false
+returns c = extended_is _ _ _ _ c.from-d.ensures (extends_yes _ _ _ c.if-b-lt48.false c.if-b-gt57.false (omega (arith, c.from-d.ensures)))

@@ -1,15 +1,17 @@
-use Rattle.std.proofs.Common.{refl, arith, length-set}
-use Rattle.text.proofs.decimal.Backward.{back_none, back_two, back_end, back_last}
+use Rattle.std.proofs.Common.{refl, arith}
+use Rattle.text.proofs.decimal.Backward.{back_none, back_pair, back_upto, back_end, back_last}
 use Rattle.text.proofs.decimal.put_padded.Goals as goal
+use Rattle.text.proofs.decimal.put_padded.Goals.{then-odd-eq1, else-odd-eq1}
 
-pub loop-j-init : goal.loop-j-init
-loop-j-init c = (refl, back_none)
+pub loop-pair-init : goal.loop-pair-init
+loop-pair-init c = back_upto (omega arith) back_none
 
-pub loop-j-preserved : goal.loop-j-preserved
-loop-j-preserved c = (simp length-set c.loop-j.invariant.0, back_two _ c.loop-j.invariant.1 c.loop-j-test.true c.digit.ensures c.digit-in-loop-j.ensures)
-
-pub returns-then-j-eq0 : goal.returns-then-j-eq0
-returns-then-j-eq0 c = back_end c.loop-j.invariant.1 c.if-j-eq0.true refl
+pub loop-pair-preserved : goal.loop-pair-preserved
+loop-pair-preserved c = back_pair _ _ c.loop-pair.invariant c.loop-pair-test.true c.digit.ensures c.digit-in-loop-pair.ensures
 
 pub returns : goal.returns
-returns c = back_last c.loop-j.invariant.1 (omega arith) c.digit-2.ensures refl
+returns c =
+    elim c.if-odd-eq1.branch [
+      | then-odd-eq1 w ↦ rw w.out-is (back_last c.loop-pair.invariant (omega (arith, w.if-odd-eq1.true)) w.digit-then-odd-eq1.ensures refl)
+      | else-odd-eq1 w ↦ rw w.out-is (back_end c.loop-pair.invariant (omega (arith, w.if-odd-eq1.false)) refl)
+    ]

@@ -6,7 +6,7 @@ pub returns-then-t-ne0 : goal.returns-then-t-ne0
 returns-then-t-ne0 c = rw (stripped_here 13 _ (omega arith) c.if-t-ne0.true) c.put_hex.ensures
 
 pub returns-then-w-ne0 : goal.returns-then-w-ne0
-returns-then-w-ne0 c = strip_put c.loop-k.invariant c.loop-k-test.true c.if-w-ne0.true c.put_hex-then-w-ne0.ensures
+returns-then-w-ne0 c = strip_put c.loop-k.invariant (omega arith) c.loop-k-test.true c.if-w-ne0.true c.put_hex-then-w-ne0.ensures
 
 pub loop-k-preserved : goal.loop-k-preserved
 loop-k-preserved c = strip_more c.loop-k.invariant c.loop-k-test.true (omega arith)

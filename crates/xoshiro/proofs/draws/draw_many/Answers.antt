@@ -17,6 +17,6 @@ loop-j-preserved c =
     let W = ap (λ (x : Draw). x.words) c.next_u64x8-d.ensures in
     let zero-add : c.loop-j.j * 8 ≡ 0 + c.loop-j.j * 8 = omega arith in (
       search rules,
-      ap length c.put_u64.ensures ∙ length-stored _ _ _ ∙ P.1,
-      drawn_more eight-words P.2 (c.put_u64.ensures ∙ λ i. stored c.loop-j.out (zero-add i) (W i)) (ap (λ (x : Draw). x.rng) c.next_u64x8-d.ensures),
+      ap length c.put.ensures ∙ length-stored _ _ _ ∙ P.1,
+      drawn_more eight-words P.2 (c.put.ensures ∙ λ i. stored c.loop-j.out (zero-add i) (W i)) (ap (λ (x : Draw). x.rng) c.next_u64x8-d.ensures),
     )

@@ -19,6 +19,6 @@ loop-j-preserved c =
     let at = c.loop-j.at in
     elim c.if-bit-ne0.branch [
       | then-bit-ne0 w ↦
-          leapt_set l h words b w.if-bit-ne0.true (w.apply_jump-next.ensures ∙ ap (λ (p : List ℕ). jumped_by p at) w.entry-poly.ensures) w.at-is
+          leapt_set l h words b w.if-bit-ne0.true (w.apply_jump.ensures ∙ ap (λ (p : List ℕ). jumped_by p at) w.entry-poly.ensures) w.at-is
       | else-bit-ne0 w ↦ leapt_clear l h b w.if-bit-ne0.false w.at-is
     ]

@@ -1,8 +1,12 @@
-use Rattle.std.proofs.Common.{not, ap, arith}
-use Rattle.base.proofs.Every.{tested_more}
-use Rattle.xoshiro.specs.x8.Calls.{is_valid, no_lane}
+use Rattle.std.proofs.Common.{rules, ◌∙◌}
+use Rattle.std.proofs.lemmas.Iterator.{YieldsList-from_slice}
+use Rattle.std.proofs.lemmas.Iterator.Search.{all_from_yields_List}
+use Rattle.base.proofs.Arrays.{list_all-every}
+use Rattle.xoshiro.specs.x8.Calls.{is_valid}
 use Rattle.xoshiro.proofs.x8.all_valid.Goals as goal
 
-pub loop-i-preserved : goal.loop-i-preserved
+pub returns : goal.returns
 unfolding is_valid
-loop-i-preserved c = tested_more c.loop-i.invariant no_lane (omega arith) (ap not c.is_zero.ensures)
+returns c =
+    all_from_yields_List is_valid _ _ _ c.all.ensures.ran (YieldsList-from_slice c.args.lanes cc) (λ x b q k. search rules)
+    ∙ list_all-every is_valid c.args.lanes

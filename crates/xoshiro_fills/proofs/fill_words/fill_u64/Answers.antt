@@ -13,7 +13,7 @@ loop-j-init c = turns_none eight-words u64s_sound c.groups_in-m.ensures
 pub loop-j-preserved : goal.loop-j-preserved
 unfolding drawn
 loop-j-preserved c =
-    one-draw refl c.loop-j.invariant c.loop-j-test.true (ap (λ (x : Draw). x.words) c.next_u64x8-d.ensures) (ap (λ (x : Draw). x.rng) c.next_u64x8-d.ensures) c.put_u64.ensures
+    one-draw refl c.loop-j.invariant c.loop-j-test.true (ap (λ (x : Draw). x.words) c.next_u64x8-d.ensures) (ap (λ (x : Draw). x.rng) c.next_u64x8-d.ensures) c.put.ensures
 
 pub returns : goal.returns
 returns c = turns_end c.loop-j.invariant c.loop-j-test.false (search rules)

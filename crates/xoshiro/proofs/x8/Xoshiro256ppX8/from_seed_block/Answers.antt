@@ -1,4 +1,4 @@
-use Rattle.std.proofs.Common.{length, replicate, refl, ap, ◌∙◌, zero-lt-suc, arith}
+use Rattle.std.proofs.Common.{◌≡◌, ℕ, ◌+◌, ◌-◌, length, replicate, refl, ap, ◌∙◌, zero-lt-suc, arith}
 use Rattle.base.proofs.Table.{tabled_none, tabled_more, tabled_end}
 use Rattle.xoshiro.specs.scalar.Calls.{jumps_made}
 use Rattle.xoshiro.specs.declared.scalar.Xoshiro256pp.{Xoshiro256pp}
@@ -14,8 +14,11 @@ loop-i-init c =
 
 pub loop-i-preserved : goal.loop-i-preserved
 loop-i-preserved c =
-    let on = jumps_more _ c.jumps-at.result c.loop-i.invariant.1 c.jump-next.ensures in
-    (omega arith, on, tabled_more c.loop-i.invariant.2 (omega arith) on)
+    let loop = c.loop-i in
+    let next : loop.i - 1 + 1 ≡ loop.i = omega (arith, loop.invariant.0) in
+    let back : loop.i ≡ loop.i + 1 - 1 = omega arith in
+    let on = jumps_more _ c.jumps-at.result loop.invariant.1 c.jump.ensures ∙ ap (λ (k : ℕ). jumps_made k c.jumps-at.result) next in
+    (omega arith, on ∙ ap (λ (k : ℕ). jumps_made k c.jumps-at.result) back, tabled_more loop.invariant.2 (omega arith) on)
 
 pub returns : goal.returns
 returns c =

@@ -1,17 +1,12 @@
-use Rattle.std.proofs.Common.{ap, ◌∙◌, arith}
-use Rattle.base.proofs.Table.{tabled_more, tabled_end}
-use Rattle.xoshiro.specs.declared.scalar.Answer.{Answer}
-use Rattle.xoshiro.specs.scalar.Calls.{jumps_made}
-use Rattle.xoshiro.proofs.x8.Lanes.{moved_by, lane_accepted}
+use Rattle.std.proofs.Common.{rules}
+use Rattle.base.proofs.Arrays.{from_fn}
+use Rattle.xoshiro.specs.scalar.Calls.{generator, jumps_made}
+use Rattle.xoshiro.specs.x8.Lanes.{lane_of}
+use Rattle.xoshiro.proofs.x8.Lanes.{moved_by}
 use Rattle.xoshiro.proofs.x8.Xoshiro256ppX8.jump_blocks.Goals as goal
-
-pub loop-i-preserved : goal.loop-i-preserved
-loop-i-preserved c =
-    let a = c.args in
-    let lane = c.lane.ensures ∙ lane_accepted a.self c.loop-i.i (omega arith) in
-    tabled_more c.loop-i.invariant (omega arith) (c.jumps.ensures ∙ ap (λ (x : Answer). jumps_made c.wrapping_mul-jumps.result x.rng) lane)
 
 pub returns : goal.returns
 returns c =
     let a = c.args in
-    moved_by a.n a.self c.wrapping_mul-jumps.ensures (tabled_end c.loop-i.invariant c.loop-i-test.false) c.of_lanes-rng.ensures
+    let lanes = from_fn _ (λ i. jumps_made c.wrapping_mul-jumps.result (generator (lane_of a.self i))) (λ q i y h k. (search rules, search rules)) c.from_fn.ensures.items in
+    moved_by a.n a.self c.wrapping_mul-jumps.ensures lanes c.of_lanes-rng.ensures

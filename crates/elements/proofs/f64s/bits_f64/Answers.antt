@@ -1,0 +1,7 @@
+use Rattle.base.proofs.Arrays.{mapped}
+use lib.Ieee.{nan, binary64, to_bits}
+use Rattle.std.proofs.Common.{rules}
+use Rattle.elements.proofs.f64s.bits_f64.Goals as goal
+
+pub returns : goal.returns
+returns c = mapped (to_bits binary64) nan c.map.ensures.items (search rules) (λ p q x y k. search rules)

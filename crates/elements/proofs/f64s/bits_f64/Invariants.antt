@@ -1,7 +1,0 @@
-use Rattle.base.proofs.Table.{Tabled}
-use lib.Ieee.{nan, binary64, to_bits}
-use lib.ListN.{get_or}
-use Rattle.elements.proofs.f64s.bits_f64.Given as goal
-
-abbrev pub invariant-loop-i : goal.invariant-loop-i
-invariant-loop-i l = Tabled 8 (λ j. to_bits binary64 (get_or l.v j nan)) 0 l.out l.i

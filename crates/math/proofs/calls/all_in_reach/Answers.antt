@@ -1,0 +1,10 @@
+use Rattle.std.proofs.Common.{rules, ◌∙◌}
+use Rattle.std.proofs.lemmas.Iterator.{YieldsList-from_slice}
+use Rattle.std.proofs.lemmas.Iterator.Search.{all_from_yields_List}
+use Rattle.base.proofs.Arrays.{list_all-every}
+use Rattle.math.proofs.calls.all_in_reach.Goals as goal
+
+pub returns : goal.returns
+returns g c =
+    let p = g.M.Formulas.is_in_reach in
+    all_from_yields_List p _ _ _ c.all.ensures.ran (YieldsList-from_slice c.args.t cc) (λ x b q k. search rules) ∙ list_all-every p c.args.t

@@ -1,0 +1,6 @@
+use Rattle.std.proofs.Common.{get_or}
+use Rattle.base.proofs.Table.{Tabled}
+use Rattle.math.proofs.lanes.minus_twice.Given as goal
+
+abbrev pub invariant-loop-i : goal.invariant-loop-i
+invariant-loop-i g l = let d = g.M.Formulas.blank in Tabled 8 (λ j. g.M.Formulas.minus_twice (get_or l.x j d)) d l.y l.i

@@ -1,7 +1,0 @@
-use lib.Ieee.{binary32}
-use Rattle.base.proofs.Every.{Tested}
-use Rattle.floats.specs.patterns.Domains.{is_u1}
-use Rattle.math_f32.proofs.calls.all_u1.Given as goal
-
-abbrev pub invariant-loop-i : goal.invariant-loop-i
-invariant-loop-i l = Tested 8 (is_u1 binary32) l.u l.ok l.i

@@ -1,0 +1,9 @@
+use Rattle.std.proofs.Common.{rules}
+use borrow.Author.Tests.{tests}
+use lib.Ieee.{neg, of_bits}
+use Rattle.floats.specs.patterns.Domains.{is_u2}
+use Rattle.math_f32.proofs.formulas.F32Formulas.is_u2.Goals as goal
+
+pub returns : goal.returns
+unfolding is_u2 neg of_bits
+returns c = search (rules, tests)

@@ -1,3 +1,0 @@
-pub mod sincos_turns
-pub mod box_muller
-pub mod calls

@@ -1,8 +1,0 @@
-use Rattle.std.proofs.Common.{get_or}
-use lib.Ieee.{nan, binary64}
-use Rattle.base.proofs.Table.{Tabled}
-use Rattle.math.specs.BoxMuller.{minus_twice}
-use Rattle.math_f64.proofs.box_muller.minus_twice.Given as goal
-
-abbrev pub invariant-loop-i : goal.invariant-loop-i
-invariant-loop-i l = Tabled 8 (λ j. minus_twice binary64 (get_or l.x j nan)) nan l.out l.i

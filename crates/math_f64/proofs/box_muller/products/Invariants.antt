@@ -1,7 +1,0 @@
-use Rattle.std.proofs.Common.{get_or}
-use lib.Ieee.{nan, binary64, mul}
-use Rattle.base.proofs.Table.{Tabled}
-use Rattle.math_f64.proofs.box_muller.products.Given as goal
-
-abbrev pub invariant-loop-i : goal.invariant-loop-i
-invariant-loop-i l = Tabled 8 (λ j. mul binary64 (get_or l.a j nan) (get_or l.b j nan)) nan l.out l.i

@@ -1,0 +1,9 @@
+use Rattle.std.proofs.Common.{rules}
+use borrow.Author.Tests.{tests}
+use lib.Ieee.{neg, of_bits}
+use Rattle.floats.specs.patterns.Domains.{has_root}
+use Rattle.math_f64.proofs.formulas.F64Formulas.has_root.Goals as goal
+
+pub returns : goal.returns
+unfolding has_root neg of_bits
+returns c = search (rules, tests)

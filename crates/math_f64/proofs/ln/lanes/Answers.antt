@@ -1,9 +1,0 @@
-use Rattle.std.proofs.Common.{◌∙◌, rules}
-use lib.Ieee.{nan, binary64}
-use Rattle.base.proofs.Table.{tabled_end}
-use Rattle.base.proofs.Zip.{table-map}
-use Rattle.math.specs.Ln.{ln}
-use Rattle.math_f64.proofs.ln.lanes.Goals as goal
-
-pub returns : goal.returns
-returns c = tabled_end c.loop-i.invariant c.loop-i-test.false ∙ table-map (ln binary64) nan 8 c.args.x (search rules)

@@ -1,0 +1,29 @@
+// Elements stored in the places of a slice.
+ghost use Rattle.std.specs.Prelude.{◌≡◌};
+ghost use Rattle.base.specs.Stored.{stored};
+
+// Stores `v` in the places from `at` on, as far as `out` has them.
+pub fn put_slice<T: Copy>(out: &mut [T], at: usize, v: &[T])
+    ensures { out.new ≡ stored out.old at v.now }
+{
+    if at < out.len() {
+        let n = v.len().min(out.len() - at);
+        out[at..at + n].copy_from_slice(&v[..n]);
+    }
+}
+
+// Stores `v` in the places from `at` on, as far as `out` has them.
+pub fn put<T: Copy, const N: usize>(out: &mut [T], at: usize, v: [T; N])
+    ensures { out.new ≡ stored out.old at v }
+{
+    if at < out.len() {
+        // N stores that the compiler knows to be N become one run
+        if N <= out.len() - at {
+            out[at..at + N].copy_from_slice(&v);
+        } else {
+            // a copy is lent, so that `v` itself need not be in memory
+            let part = v;
+            put_slice(out, at, &part);
+        }
+    }
+}
