@@ -10,6 +10,7 @@ use lib.Dec.{T}
 use lib.Ieee.Fits.{and_i, and_l, and_r}
 use lib.ListN.{length, get_or, take}
 use lib.Seq.{take-suc, take_all}
+use Rattle.std.specs.List.{fold}
 use Rattle.base.specs.Every.{every}
 use Rattle.base.specs.Table.{table}
 
@@ -32,6 +33,11 @@ module _ {A : Type 0} (p : A → Bool) where
       ∙ sym (every_last (take i xs) (get_or xs i d))
       ∙ ap (every p) (sym (take-suc xs i d h))
       ∙ ap (λ (n : ℕ). every p (take n xs)) (sym (add-one i))
+
+-- a fold that joins a test of each element is the test of all
+pub fold-every : {A : Type 0} (p : A → Bool) (ok : Bool) (xs : List A) → fold (λ (b : Bool) (x : A). b && p x) ok xs ≡ ok && every p xs
+fold-every p ok [] = sym (and_true ok)
+fold-every p ok (x ∷ xs) = fold-every p (ok && p x) xs ∙ sym (and_assoc ok (p x) (every p xs))
 
 -- ok says whether the first i of n elements pass
 pub record Tested {A : Type 0} (n : ℕ) (p : A → Bool) (xs : List A) (ok : Bool) (i : ℕ) : Type 0 where

@@ -25,6 +25,10 @@ module _ {A : Type 0} where
       let e : i + suc r ≡ suc i + r = omega arith in
       rw e (sets_in vs (set l i a) (suc i) r d (le_of_suc-le-suc h) (rw length-set (omega arith)))
 
+  sets_after : (vs l : List A) (i k : ℕ) (d : A) → i + length vs ≤ k → get_or (sets l i vs) k d ≡ get_or l k d
+  sets_after [] l i k d h = refl
+  sets_after (a ∷ vs) l i k d h = sets_after vs (set l i a) (suc i) k d (omega arith) ∙ get_or-set_other l i k a d (omega arith)
+
   sets-out : (l : List A) (i : ℕ) (vs : List A) → length l ≤ i → sets l i vs ≡ l
   sets-out l i [] h = refl
   sets-out l i (a ∷ vs) h = rw (set_out l i a h) (sets-out l (suc i) vs (omega arith))
@@ -55,6 +59,10 @@ module _ {A : Type 0} where
   pub stored_in : (v l : List A) (at r : ℕ) (d : A) → r < length v → at + r < length l → get_or (stored l at v) (at + r) d ≡ get_or v r d
   unfolding stored
   stored_in v l at r d h b = sets_in v l at r d h b
+
+  pub stored_after : (v l : List A) (at k : ℕ) (d : A) → at + length v ≤ k → get_or (stored l at v) k d ≡ get_or l k d
+  unfolding stored
+  stored_after v l at k d h = sets_after v l at k d h
 
   -- past the end nothing is stored
   pub stored-out : (l v : List A) (at : ℕ) → length l ≤ at → l ≡ stored l at v

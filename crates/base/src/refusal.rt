@@ -53,23 +53,35 @@ impl Refusal {
 }
 
 impl fmt::Display for Refusal {
+    ghost use Rattle.std.specs.Prelude.{Some};
+    ghost use Rattle.base.specs.Refusal.{reason_of};
+
+    ghost output = { λ r. Some (reason_of r) };
+
     fn fmt<W: fmt::Write>(&self, f: &mut fmt::Formatter<W>) -> fmt::Result {
-        let text = match self {
-            Refusal::FormLength => "a saved form of another length",
-            Refusal::FormMark => "a saved form with no such mark, or with words that don't wait",
-            Refusal::ZeroState => "a state of four zero words",
-            Refusal::UnknownKind => "no kind has this number",
-            Refusal::OutputLength => "a length that isn't a multiple of the kind's width",
-            Refusal::NoSuchLane => "a lane's number of 8 or more",
-            Refusal::LnDomain => "an argument of ln that isn't a positive normal",
-            Refusal::TurnsDomain => "a turn that is a NaN or too large",
-            Refusal::SqrtDomain =>
+        match self {
+            Refusal::FormLength => f.write_str("a saved form of another length"),
+            Refusal::FormMark => f.write_str(
+                "a saved form with no such mark, or with words that don't wait",
+            ),
+            Refusal::ZeroState => f.write_str("a state of four zero words"),
+            Refusal::UnknownKind => f.write_str("no kind has this number"),
+            Refusal::OutputLength => f.write_str(
+                "a length that isn't a multiple of the kind's width",
+            ),
+            Refusal::NoSuchLane => f.write_str("a lane's number of 8 or more"),
+            Refusal::LnDomain => f.write_str("an argument of ln that isn't a positive normal"),
+            Refusal::TurnsDomain => f.write_str("a turn that is a NaN or too large"),
+            Refusal::SqrtDomain => f.write_str(
                 "an argument of sqrt that is neither a positive normal nor a zero",
-            Refusal::BoxMullerDomain =>
+            ),
+            Refusal::BoxMullerDomain => f.write_str(
                 "a u1 that isn't normal in (0, 1], or a u2 that isn't in [0, 1)",
-            Refusal::OtherWords => "words that wait and aren't the upper words of their group",
-        };
-        write!(f, "{text}")
+            ),
+            Refusal::OtherWords => f.write_str(
+                "words that wait and aren't the upper words of their group",
+            ),
+        }
     }
 }
 

@@ -1,16 +1,17 @@
 // The bytes of a kind that is chosen when the program runs: elements little-endian, floats as their bits.
 #![tactic(auto)]
 
-ghost use Rattle.std.specs.Prelude.{◌≡◌};
+ghost use Rattle.std.specs.Prelude.{◌≡◌, ◌-◌, ◌*◌, ◌+◌, ◌<◌, ◌≤◌, length};
 ghost use Rattle.base.specs.Stored.{stored};
 ghost use Rattle.fills.proofs.Bytes.{row_sound};
-ghost use Rattle.fills.specs.Buffer.{bytes_kind};
+ghost use Rattle.fills.specs.Buffer.{bytes_kind, groups_ahead, draws_ahead, stored_groups};
 ghost use Rattle.fills.specs.Kinds.{kind_at};
 ghost use Rattle.fills.specs.Numbers.{number_of};
 
 use elements::f32s::F32Bytes;
 use elements::f64s::F64Bytes;
 use elements::group::{FromOne, FromTwo, Group, OfKind};
+use elements::groups;
 use elements::open01_f32s::Open01F32Bytes;
 use elements::u32s::U32Bytes;
 use elements::u64s::U64Bytes;
@@ -90,7 +91,7 @@ impl Group for KindBytes {
 }
 
 // The bytes of one group, each of its draws with the words `w`, in the places from `at` on, as far as `out` has them. (Kind 1 stands for the
-// numbers that are no kind's.)
+// numbers that are no kind's, here and below.)
 pub fn put_group(kind: u64, out: &mut [u8], at: usize, w: [u64; 8])
     ensures { out.new ≡ stored out.old at ((bytes_kind (kind_at kind).kind).group (λ _. w)) }
 {
@@ -104,4 +105,19 @@ pub fn put_group(kind: u64, out: &mut [u8], at: usize, w: [u64; 8])
         Kind::Open01F32 => Open01F32Bytes.put_group(out, at, w),
         Kind::Open01F64 => F64Bytes { nonzero: true }.put_group(out, at, w),
     }
+}
+
+// The bytes of the groups of the buffer `b` in the places from `at` on, as far as both go.
+pub fn map_bytes(kind: u64, out: &mut [u8], at: usize, b: &[u64; 128])
+    ensures { out.new ≡ stored_groups (bytes_kind (kind_at kind).kind) b.now out.old at (groups_ahead (bytes_kind (kind_at kind).kind) (length out.old - at)) }
+{
+    KindBytes(kinds::kind_of(kind)).map_groups(out, at, b);
+}
+
+// The draws of the groups that the bytes from `at` on of a slice of length `len` begin, at most 16: each draw makes 64 bytes.
+pub fn draws_ahead(kind: u64, len: usize, at: usize) -> usize
+    ensures { (result ≡ draws_ahead (bytes_kind (kind_at kind).kind) (len - at)) × (result ≤ 16) × (result * 64 < len - at + 128) × (at < len → 0 < result) }
+{
+    let k = KindBytes(kinds::kind_of(kind));
+    k.draws() * groups::groups_of(len, at, k.places(), k.most())
 }

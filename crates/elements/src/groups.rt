@@ -49,7 +49,9 @@ pub fn highs(w: [u64; 8]) -> [u32; 8]
     w.map(words::high)
 }
 
-// Stores two halves of a group, one after the other, in the places from `at` on, as far as `out` has them.
+// Stores two halves of a group, one after the other, in the places from `at` on, as far as `out` has them. (Part of the loop that calls it:
+// in a call the rows of the generator would wait in memory.)
+#[inline(always)]
 pub fn put_halves<T: Copy>(out: &mut [T], at: usize, lo: [T; 8], hi: [T; 8])
     ensures { out.new ≡ stored out.old at (lo ++ hi) }
 {

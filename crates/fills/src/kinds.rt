@@ -127,6 +127,10 @@ pub fn check(kind: u64, len: usize) -> Result<Kind, Refusal>
     ensures refusal { refusal_in result ≡ refusal_of kind len }
     ensures number { IfOk result (λ k. number_of k ≡ kind) }
 {
+    // the bound on kinds is that of `count`
+    if !is_kind(kind) {
+        return Err(Refusal::UnknownKind);
+    }
     let row = Kind::try_from(kind)?;
     if len % row.width() != 0 {
         return Err(Refusal::OutputLength);

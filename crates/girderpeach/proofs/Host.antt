@@ -11,7 +11,8 @@ use Rattle.base.specs.Refusal.{number_of}
 use Rattle.base.specs.declared.refusal.Refusal.{Refusal}
 use Rattle.base.proofs.Refused.{unless-none, unless-some}
 use Rattle.base.specs.Iterate.{iterate}
-use Rattle.fills.specs.FillBytes.{bytes_written, FilledBytes}
+use Rattle.base.specs.Refused.{unless}
+use Rattle.fills.specs.FillBytes.{bytes_written, bytes_draws, FilledBytes}
 use Rattle.saved.specs.fields.Saved.{length_refusal, Saved}
 use Rattle.girderpeach.specs.Host.{answer_of, first_of, Called, Forms, fill_refusal, HostFill}
 use Rattle.saved.proofs.fields.Saved.{some_number}
@@ -34,7 +35,7 @@ length_yes {n} form e = simp (eq-eqb (length form) n e)
 
 -- ---- any call
 -- a refusal's answer has no value
-no_value : (r v : ℕ) → (r ≡ 0 → ⊥) → answer_of r 0 ≡ answer_of r v
+pub no_value : (r v : ℕ) → (r ≡ 0 → ⊥) → answer_of r 0 ≡ answer_of r v
 no_value zero v h = absurd (h refl)
 no_value (suc r) v h = refl
 
@@ -72,9 +73,13 @@ module _ {G : Type 0} {H : Forms G} {n : ℕ} (Z : Sized H n) {form : List ℕ} 
 
 -- ---- a fill
 -- what a fill of bytes answers fits
-pub few_made : {G : Type 0} {E : Engine G} {k : ℕ} {g g' : G} {out out' : List ℕ} {draws : ℕ} → FilledBytes E k g out out' 0 draws g'
+pub few_made : {G : Type 0} {E : Engine G} {k : ℕ} {g g' : G} {out out' : List ℕ} {r draws : ℕ} → FilledBytes E k g out out' r draws g'
     → length out < 2 ^ 64 → draws < 2 ^ 63
-few_made {k = k} {out = out} F h = let f = few_draws k (length out) h in omega (arith, F.count)
+few_made {k = k} {out = out} {r = r} {draws = draws} F h = go r F.count
+  where
+    go : (r : ℕ) → draws ≡ unless r (bytes_draws k (length out)) 0 → draws < 2 ^ 63
+    go zero e = let f = few_draws k (length out) h in omega arith
+    go (suc r) e = omega arith
 
 module _ {G : Type 0} (H : Forms G) (form : List ℕ) (k : ℕ) (out : List ℕ) where
   -- one that is refused with e

@@ -12,9 +12,9 @@ pub fn fill(form: &mut [u8], kind: u64, out: &mut [u8]) -> Result<i64, Refusal>
     ensures { Filled form.old kind out.old (answered result) form.new out.new }
 {
     let rng = philox4x32::parse(form)?;
+    // a kind and a length are refused before other words, and before these are looked at, which takes eight blocks
+    kinds::check(kind, out.len())?;
     if !philox4x32::is_numbered(rng) {
-        // a kind and a length are refused before other words
-        kinds::check(kind, out.len())?;
         return Err(Refusal::OtherWords);
     }
     let fill = philox_fills::bytes::fill_bytes(rng, kind, out)?;

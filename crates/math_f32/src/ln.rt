@@ -1,8 +1,9 @@
 // The natural logarithm of one f32 lane (ln_f32 of the Rust's math.rs), of any values. Each operation is rounded once, in the Rust's order.
-ghost use Rattle.std.specs.Prelude.{◌≡◌};
+ghost use Rattle.std.specs.Prelude.{map, ◌≡◌};
 ghost use Rattle.std.specs.Float.{binary32};
 ghost use Rattle.math.specs.Ln.{exponent32, reduced32, ln};
 
+use crate::formulas::F32;
 use floats::patterns;
 
 const SQRT_2: f32 = 1.41421356237309504880168872420969808;
@@ -44,4 +45,11 @@ pub fn lane(x: f32) -> f32
     let big = m > SQRT_2;
     let ef = exponent(bits, big);
     reduced(patterns::select(big, m * 0.5, m), ef)
+}
+
+// Eight lanes.
+pub fn lanes(x: [f32; 8]) -> [f32; 8]
+    ensures { result ≡ map (ln binary32) x }
+{
+    math::lanes::ln::<F32>(x)
 }

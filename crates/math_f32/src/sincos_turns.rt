@@ -3,8 +3,9 @@
 ghost use Rattle.std.specs.Prelude.{◌≡◌, ◌%◌, ◌==◌};
 ghost use Rattle.std.specs.Float.{binary32};
 ghost use Rattle.math.specs.Turns.{sin_poly, cos_poly, sign_of};
-ghost use Rattle.math.specs.Lanes.{lane_of};
+ghost use Rattle.math.specs.Lanes.{lane_of, turns_of};
 
+use crate::formulas::F32;
 use floats::patterns;
 use math::cos_sin::CosSin;
 
@@ -49,4 +50,11 @@ pub fn lane(t: f32) -> CosSin<f32>
     let sin = so * sign(q / 2);
     let cos = co * sign((q + 1) / 2);
     CosSin { cos, sin }
+}
+
+// Eight lanes.
+pub fn lanes(t: [f32; 8]) -> CosSin<[f32; 8]>
+    ensures { result ≡ turns_of binary32 t }
+{
+    math::lanes::sincos_turns::<F32>(t)
 }

@@ -1,8 +1,10 @@
 // The square root of one f32 lane (sqrt_f32 of the Rust's math.rs), of any values: a guess at 1/sqrt(v) from the pattern, Newton's
 // steps, and a correction by the residue. Each operation is rounded once, in the Rust's order.
-ghost use Rattle.std.specs.Prelude.{◌≡◌, false, is_nan};
+ghost use Rattle.std.specs.Prelude.{map, ◌≡◌, false, is_nan};
 ghost use Rattle.std.specs.Float.{binary32};
 ghost use Rattle.math.specs.Sqrt.{guess_of, newton_step, sqrt};
+
+use crate::formulas::F32;
 
 // For the values between these two, and for no other number, the guess's pattern would be a NaN's.
 const LOW: f32 = -0.932_450_06;
@@ -36,4 +38,11 @@ pub fn lane(v: f32) -> f32
     y = newton(v, y);
     let s = v * y;
     s + 0.5 * y * (v - s * s)
+}
+
+// Eight lanes.
+pub fn lanes(x: [f32; 8]) -> [f32; 8]
+    ensures { result ≡ map (sqrt binary32) x }
+{
+    math::lanes::sqrt::<F32>(x)
 }

@@ -1,9 +1,10 @@
 // The natural logarithm of one f64 lane (ln_f64 of the Rust's math.rs), of any values. Each operation is rounded once, in the Rust's order.
-ghost use Rattle.std.specs.Prelude.{◌≡◌};
+ghost use Rattle.std.specs.Prelude.{map, ◌≡◌};
 ghost use Rattle.std.specs.Float.{binary64};
 ghost use Rattle.math.specs.Ln.{ln};
 ghost use Rattle.math_f64.specs.ln.Parts.{parts_of, series_start, series_end};
 
+use crate::formulas::F64;
 use floats::patterns;
 
 const SQRT_2: f64 = 1.41421356237309504880168872420969808;
@@ -66,4 +67,11 @@ pub fn lane(x: f64) -> f64
 {
     let parts = split(x);
     series_end(parts.s, parts.e, series_start(parts.s))
+}
+
+// Eight lanes.
+pub fn lanes(x: [f64; 8]) -> [f64; 8]
+    ensures { result ≡ map (ln binary64) x }
+{
+    math::lanes::ln::<F64>(x)
 }

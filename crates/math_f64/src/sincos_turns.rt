@@ -4,8 +4,9 @@ ghost use Rattle.std.specs.Prelude.{◌≡◌, ◌%◌, ◌==◌};
 ghost use Rattle.std.specs.Float.{binary64};
 ghost use Rattle.math.specs.Turns.{angle as angleOf, sign_of};
 ghost use Rattle.math_f64.specs.sincos_turns.Lanes.{sin_start, sin_end, cos_start, cos_end, turned_of};
-ghost use Rattle.math.specs.Lanes.{lane_of};
+ghost use Rattle.math.specs.Lanes.{lane_of, turns_of};
 
+use crate::formulas::F64;
 use floats::patterns;
 use math::cos_sin::CosSin;
 
@@ -93,4 +94,11 @@ pub fn lane(t: f64) -> CosSin<f64>
 {
     let th = angle(t);
     turned(t, sin_end(th, sin_start(th)), cos_end(th, cos_start(th)))
+}
+
+// Eight lanes.
+pub fn lanes(t: [f64; 8]) -> CosSin<[f64; 8]>
+    ensures { result ≡ turns_of binary64 t }
+{
+    math::lanes::sincos_turns::<F64>(t)
 }

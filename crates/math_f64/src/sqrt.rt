@@ -1,8 +1,10 @@
 // The square root of one f64 lane (sqrt_f64 of the Rust's math.rs), of any values: a guess at 1/sqrt(v) from the pattern, Newton's
 // steps, and a correction by the residue. Each operation is rounded once, in the Rust's order.
-ghost use Rattle.std.specs.Prelude.{◌≡◌, false, is_nan};
+ghost use Rattle.std.specs.Prelude.{map, ◌≡◌, false, is_nan};
 ghost use Rattle.std.specs.Float.{binary64};
 ghost use Rattle.math.specs.Sqrt.{guess_of, newton_step, sqrt};
+
+use crate::formulas::F64;
 
 // For the values between these two, and for no other number, the guess's pattern would be a NaN's.
 const LOW: f64 = -0.932_450_084_790_142_5;
@@ -37,4 +39,11 @@ pub fn lane(v: f64) -> f64
     y = newton(v, y);
     let s = v * y;
     s + 0.5 * y * (v - s * s)
+}
+
+// Eight lanes.
+pub fn lanes(x: [f64; 8]) -> [f64; 8]
+    ensures { result ≡ map (sqrt binary64) x }
+{
+    math::lanes::sqrt::<F64>(x)
 }

@@ -1,6 +1,6 @@
 -- What is wrong with an order's arguments, by number: 1 to 7 name the argument, 8 says that the order goes past the last draw, 9 that there are
 -- not 6 or 7 arguments. And what the functions answer, as such a number, 0 where nothing is wrong, and an order.
-use Rattle.std.specs.Prelude.{ℕ, Option, Some, None, Ok, Err, Result, false}
+use Rattle.std.specs.Prelude.{ℕ, List, codes, Option, Some, None, Ok, Err, Result, false}
 use Rattle.base.specs.Refusal.{Answer}
 use Rattle.order.specs.declared.Order.{Order}
 use Rattle.order.specs.declared.Start.{Start}
@@ -19,6 +19,18 @@ number_of Count = 6
 number_of Last = 7
 number_of Draws = 8
 number_of Arguments = 9
+
+-- what is written of a fault: the argument that is wrong and what it takes, or why the order as a whole is refused
+abbrev pub message_of : fault.Fault → List ℕ
+message_of Engine = codes "ENGINE: xoshiro or philox"
+message_of Seed = codes "SEED: a whole number in decimal digits, with no zero in front, from 0 to 18446744073709551615"
+message_of Block = codes "BLOCK: a whole number in decimal digits, with no zero in front, from 0 to 2305843009213693951 for xoshiro, to 18446744073709551615 for philox"
+message_of First = codes "FIRST: a whole number in decimal digits, with no zero in front, from 0 to 18446744073709551615 for xoshiro, to 4611686018427387903 for philox"
+message_of Kind = codes "KIND: 1 to 8, or u64, u32, f32, f64, normal_f32, normal_f64, open01_f32, open01_f64"
+message_of Count = codes "COUNT: a whole number in decimal digits, with no zero in front, from 0 to 18446744073709551615"
+message_of Last = codes "the last argument: raw, or nothing"
+message_of Draws = codes "COUNT: FIRST and the draws of COUNT values come to more than 18446744073709551616 for xoshiro, 4611686018427387904 for philox"
+message_of Arguments = codes "usage: deliver ENGINE SEED BLOCK FIRST KIND COUNT [raw]"
 
 -- the order of zeros
 abbrev pub blank : Order

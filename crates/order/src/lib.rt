@@ -46,25 +46,36 @@ pub enum Fault {
 
 // What the argument takes that is wrong, or why the order as a whole is refused.
 impl fmt::Display for Fault {
+    ghost use Rattle.order.specs.Faults.{message_of};
+
+    ghost output = { λ f. Some (message_of f) };
+
     fn fmt<W: fmt::Write>(&self, f: &mut fmt::Formatter<W>) -> fmt::Result {
-        let text = match self {
-            Fault::Engine => "ENGINE: xoshiro or philox",
-            Fault::Seed =>
+        match self {
+            Fault::Engine => f.write_str("ENGINE: xoshiro or philox"),
+            Fault::Seed => f.write_str(
                 "SEED: a whole number in decimal digits, with no zero in front, from 0 to 18446744073709551615",
-            Fault::Block =>
+            ),
+            Fault::Block => f.write_str(
                 "BLOCK: a whole number in decimal digits, with no zero in front, from 0 to 2305843009213693951 for xoshiro, to 18446744073709551615 for philox",
-            Fault::First =>
+            ),
+            Fault::First => f.write_str(
                 "FIRST: a whole number in decimal digits, with no zero in front, from 0 to 18446744073709551615 for xoshiro, to 4611686018427387903 for philox",
-            Fault::Kind =>
+            ),
+            Fault::Kind => f.write_str(
                 "KIND: 1 to 8, or u64, u32, f32, f64, normal_f32, normal_f64, open01_f32, open01_f64",
-            Fault::Count =>
+            ),
+            Fault::Count => f.write_str(
                 "COUNT: a whole number in decimal digits, with no zero in front, from 0 to 18446744073709551615",
-            Fault::Last => "the last argument: raw, or nothing",
-            Fault::Draws =>
+            ),
+            Fault::Last => f.write_str("the last argument: raw, or nothing"),
+            Fault::Draws => f.write_str(
                 "COUNT: FIRST and the draws of COUNT values come to more than 18446744073709551616 for xoshiro, 4611686018427387904 for philox",
-            Fault::Arguments => "usage: deliver ENGINE SEED BLOCK FIRST KIND COUNT [raw]",
-        };
-        write!(f, "{text}")
+            ),
+            Fault::Arguments => f.write_str(
+                "usage: deliver ENGINE SEED BLOCK FIRST KIND COUNT [raw]",
+            ),
+        }
     }
 }
 

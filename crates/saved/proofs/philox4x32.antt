@@ -1,5 +1,6 @@
 pub mod Form
 pub mod Moves
+pub mod Moved
 pub mod Widths
 pub mod Theorems
 pub mod Sound

@@ -1,1 +1,2 @@
 pub mod Flats
+pub mod Eight

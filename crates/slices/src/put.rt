@@ -6,9 +6,10 @@ ghost use Rattle.base.specs.Stored.{stored};
 pub fn put_slice<T: Copy>(out: &mut [T], at: usize, v: &[T])
     ensures { out.new ≡ stored out.old at v.now }
 {
-    if at < out.len() {
-        let n = v.len().min(out.len() - at);
-        out[at..at + n].copy_from_slice(&v[..n]);
+    // by index: a `copy_from_slice` of as many places as there are is a call of memmove, which the archives for C do without
+    let n = words::room(out.len(), at, v.len());
+    for k in 0..n {
+        out[at + k] = v[k];
     }
 }
 

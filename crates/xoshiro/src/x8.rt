@@ -71,7 +71,10 @@ fn of_lanes(lanes: [Xoshiro256pp; 8]) -> Xoshiro256ppX8
 fn all_valid(lanes: [Xoshiro256pp; 8]) -> bool
     ensures { result ≡ every is_valid lanes }
 {
-    lanes.iter().all(|lane| !scalar::is_zero(lane.s))
+    // every lane is looked at: eight tests that stop at the first zero lane would be eight branches at each load of a form
+    lanes
+        .iter()
+        .fold(true, |valid, lane| valid & !scalar::is_zero(lane.s))
 }
 
 // Lane `i` of a generator.

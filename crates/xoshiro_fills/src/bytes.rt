@@ -3,7 +3,7 @@ ghost use Rattle.std.specs.Prelude.{◌≡◌, ◌≤◌};
 ghost use Rattle.fills.specs.Buffer.{bytes_kind};
 ghost use Rattle.fills.specs.Fill.{Filled};
 ghost use Rattle.fills.specs.FillBytes.{FilledBytes};
-ghost use Rattle.fills.specs.Kinds.{kind_at};
+ghost use Rattle.fills.specs.Kinds.{kind_at, open01_f32s};
 ghost use Rattle.fills.specs.Numbers.{number_of};
 ghost use Rattle.xoshiro.specs.x8.Calls.{engine};
 ghost use Rattle.xoshiro_fills.specs.Answered.{answered};
@@ -22,10 +22,10 @@ use normals::normal_f32s::NormalF32Bytes;
 use normals::normal_f64s::NormalF64Bytes;
 use xoshiro::x8::Xoshiro256ppX8;
 
-// The bytes of kinds 5, 6 and 7. For normals a buffer is worth its while from eight draws on.
+// The bytes of kinds 5 and 6. A buffer is worth its while from eight draws on.
 #[tactic(auto, unfolding(fills::specs::Kinds::kind_at))]
 fn fill_apart(g: Xoshiro256ppX8, kind: Kind, out: &mut [u8]) -> Fill
-    requires { (5 ≤ number_of kind) × (number_of kind ≤ 7) }
+    requires { (5 ≤ number_of kind) × (number_of kind ≤ 6) }
     ensures { Filled engine (bytes_kind (kind_at (number_of kind)).kind) g out.old out.new result.draws result.rng }
 {
     let short = out.len() < 512;
@@ -34,14 +34,22 @@ fn fill_apart(g: Xoshiro256ppX8, kind: Kind, out: &mut [u8]) -> Fill
         Kind::NormalF32 => ahead(g, NormalF32Bytes, out),
         Kind::NormalF64 if short => pairs(g, NormalF64Bytes, out),
         Kind::NormalF64 => ahead(g, NormalF64Bytes, out),
-        Kind::Open01F32 => plain(g, Open01F32Bytes, out),
-        Kind::U64 | Kind::U32 | Kind::F32 | Kind::F64 | Kind::Open01F64 => unreachable!(),
+        Kind::U64 | Kind::U32 | Kind::F32 | Kind::F64 | Kind::Open01F32 | Kind::Open01F64 =>
+            unreachable!(),
     }
+}
+
+// The bytes of kind 7.
+fn fill_open01_f32(g: Xoshiro256ppX8, out: &mut [u8]) -> Fill
+    ensures { Filled engine (bytes_kind open01_f32s) g out.old out.new result.draws result.rng }
+{
+    plain(g, Open01F32Bytes, out)
 }
 
 // The bytes of a kind. (The loops of kinds 1 to 4 stand here, and that of kind 4 is that of kind 8: of more than four the compiler makes
 // poor ones where vectors are short. The other kinds are called with a copy and answer in a copy, so that the generator of these need not
-// be in memory.)
+// be in memory: one copy for all of them, since each call clears its locals. Kind 7 stands by itself, because beside the normals the
+// compiler cuts its rows in two where vectors are long.)
 #[tactic(auto, unfolding(fills::specs::Kinds::kind_at))]
 fn fill_kind(g: Xoshiro256ppX8, kind: Kind, out: &mut [u8]) -> Fill
     ensures { Filled engine (bytes_kind (kind_at (number_of kind)).kind) g out.old out.new result.draws result.rng }
@@ -56,7 +64,11 @@ fn fill_kind(g: Xoshiro256ppX8, kind: Kind, out: &mut [u8]) -> Fill
         }
         Kind::NormalF32 | Kind::NormalF64 | Kind::Open01F32 => {
             let h = g;
-            let f = fill_apart(h, kind, out);
+            let f = if kind == Kind::Open01F32 {
+                fill_open01_f32(h, out)
+            } else {
+                fill_apart(h, kind, out)
+            };
             let rng = f.rng;
             Fill {
                 rng,

@@ -48,7 +48,7 @@ refused_none k left m h = go (is_kind k) refl
     go false e = no_kind k left m e refl
 
 -- by a fill, its draws added to those made before
-part-made : {d : Delivery} {before after : List ℕ} {n w bytes refusal draws sum : ℕ} {s : Source}
+pub part-made : {d : Delivery} {before after : List ℕ} {n w bytes refusal draws sum : ℕ} {s : Source}
     → n ≡ places_of d.kind d.left (length before) → w ≡ width_of d.kind → bytes ≡ n * w
     → FilledBytes either d.kind d.source (take bytes before) after refusal draws s → sum ≡ (d.draws + draws) % 2 ^ 64
     → FilledPart d before (after ++ drop bytes before) bytes

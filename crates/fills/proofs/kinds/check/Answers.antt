@@ -1,5 +1,9 @@
-use Rattle.fills.proofs.kinds.Numbers.{none-passed, row-accepted, row-refused}
+use Rattle.std.proofs.Common.{rules}
+use Rattle.fills.proofs.kinds.Numbers.{refused-kind, none-passed, row-accepted, row-refused}
 use Rattle.fills.proofs.kinds.check.Goals as goal
+
+pub returns-then-not-is_kind-clause-refusal : goal.returns-then-not-is_kind-clause-refusal
+returns-then-not-is_kind-clause-refusal c = refused-kind _ _ c.is_kind.ensures (search rules)
 
 pub returns-in_err-row-clause-refusal : goal.returns-in_err-row-clause-refusal
 returns-in_err-row-clause-refusal c = none-passed _ _ c.from_residual.result c.from_residual.ensures c.in_err-row.ensures

@@ -1,16 +1,19 @@
-use Rattle.base.proofs.Stored.{stored-out}
-use Rattle.slices.proofs.put.Parts.{part_stored, stored_front}
+use mathlib.Core.Path.{refl, sym, subst}
+use Prim.Native.Nat.{◌+◌}
+use lib.ListN.{length, set}
+use Rattle.base.proofs.Stored.{Putting, put_none, put_more, put_end}
 use borrow.Author.Rules.{rules}
-use native.Mathlib.Omega.{arith}
-use lib.Seq.{length-take-le}
-use mathlib.Core.Path.{◌∙◌}
 use Rattle.slices.proofs.put.put_slice.Goals as goal
 
-pub returns-then-at-out : goal.returns-then-at-out
-returns-then-at-out g c =
-    let k = length-take-le c.min-n.result c.args.v.now (search rules) in
-    part_stored c.args.out.now _ _ c.args.at _ (omega (arith, k)) (omega (arith, k)) c.copy_from_slice.ensures.after
-    ∙ stored_front c.args.out.now c.args.v.now c.args.at _ (search rules)
+pub loop-k-init : goal.loop-k-init
+loop-k-init g c = put_none refl c.room-n.ensures
 
-pub returns-else-at-out : goal.returns-else-at-out
-returns-else-at-out g c = stored-out _ _ _ (search rules)
+pub loop-k-preserved : goal.loop-k-preserved
+loop-k-preserved g c =
+    let a = c.args in
+    let l = c.loop-k in
+    let x = c.index-v-k in
+    subst (λ y. Putting (length a.v.now) a.out.now a.at a.v.now c.room-n.result (set l.out (a.at + l.k) y) (l.k + 1)) (sym x.is) (put_more l.invariant (search rules) x.result)
+
+pub returns : goal.returns
+returns g c = put_end c.loop-k.invariant c.loop-k-test.false
