@@ -48,7 +48,8 @@ pub fn sincos_turns<M: Formulas>(t: [M::Float; 8]) -> Result<CosSin<[M::Float; 8
 fn all_have_root<M: Formulas>(x: [M::Float; 8]) -> bool
     ensures { result ≡ every M.has_root x }
 {
-    x.iter().all(|v| M::has_root(*v))
+    // every lane is looked at: tests that stop at the first would be eight branches, which take longer than a root
+    x.iter().fold(true, |all, v| all & M::has_root(*v))
 }
 
 // Refuses if some argument is neither a positive normal nor a zero of either sign.

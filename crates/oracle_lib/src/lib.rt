@@ -13,13 +13,19 @@ use base::refusal::Refusal;
 use floats::{patterns, units};
 use math::cos_sin::CosSin;
 
-// What a call answers: 0 and its value, or the number of its refusal and `blank`.
-fn answered<V: Copy>(answer: Result<V, Refusal>, blank: V) -> (u64, V)
-    ensures { (result.0 ≡ (answer_of blank answer).refusal) × (result.1 ≡ (answer_of blank answer).value) }
+// Leaves in `out` what a call answers, or `blank` where it refuses, and answers 0 or the number of its refusal.
+fn answered<V: Copy>(answer: Result<V, Refusal>, blank: V, out: &mut V) -> u64
+    ensures { (result ≡ (answer_of blank answer).refusal) × (out.new ≡ (answer_of blank answer).value) }
 {
     match answer {
-        Ok(value) => (0, value),
-        Err(refusal) => (refusal.number(), blank),
+        Ok(value) => {
+            *out = value;
+            0
+        }
+        Err(refusal) => {
+            *out = blank;
+            refusal.number()
+        }
     }
 }
 
@@ -27,18 +33,14 @@ fn answered<V: Copy>(answer: Result<V, Refusal>, blank: V) -> (u64, V)
 pub extern "C" fn oracle_ln_f32(x: &[f32; 8], out: &mut [f32; 8]) -> u64
     ensures { (result ≡ (ln_call binary32 x.now).refusal) × (out.new ≡ (ln_call binary32 x.now).value) }
 {
-    let (number, value) = answered(math_f32::calls::ln_f32(*x), [0.0; 8]);
-    *out = value;
-    number
+    answered(math_f32::calls::ln_f32(*x), [0.0; 8], out)
 }
 
 #[unsafe(no_mangle)]
 pub extern "C" fn oracle_sqrt_f32(x: &[f32; 8], out: &mut [f32; 8]) -> u64
     ensures { (result ≡ (sqrt_call binary32 x.now).refusal) × (out.new ≡ (sqrt_call binary32 x.now).value) }
 {
-    let (number, value) = answered(math_f32::calls::sqrt_f32(*x), [0.0; 8]);
-    *out = value;
-    number
+    answered(math_f32::calls::sqrt_f32(*x), [0.0; 8], out)
 }
 
 #[unsafe(no_mangle)]
@@ -54,7 +56,8 @@ pub extern "C" fn oracle_sincos_turns_f32(
         cos: none,
         sin: none,
     };
-    let (number, value) = answered(math_f32::calls::sincos_turns_f32(*t), blank);
+    let mut value = blank;
+    let number = answered(math_f32::calls::sincos_turns_f32(*t), blank, &mut value);
     let c = value.cos;
     let s = value.sin;
     *cos = c;
@@ -76,7 +79,8 @@ pub extern "C" fn oracle_box_muller_f32(
         cos: none,
         sin: none,
     };
-    let (number, value) = answered(math_f32::calls::box_muller_f32(*u1, *u2), blank);
+    let mut value = blank;
+    let number = answered(math_f32::calls::box_muller_f32(*u1, *u2), blank, &mut value);
     let c = value.cos;
     let s = value.sin;
     *cos = c;
@@ -110,18 +114,14 @@ pub extern "C" fn oracle_open01_f32(x: u32) -> u32
 pub extern "C" fn oracle_ln_f64(x: &[f64; 8], out: &mut [f64; 8]) -> u64
     ensures { (result ≡ (ln_call binary64 x.now).refusal) × (out.new ≡ (ln_call binary64 x.now).value) }
 {
-    let (number, value) = answered(math_f64::calls::ln_f64(*x), [0.0; 8]);
-    *out = value;
-    number
+    answered(math_f64::calls::ln_f64(*x), [0.0; 8], out)
 }
 
 #[unsafe(no_mangle)]
 pub extern "C" fn oracle_sqrt_f64(x: &[f64; 8], out: &mut [f64; 8]) -> u64
     ensures { (result ≡ (sqrt_call binary64 x.now).refusal) × (out.new ≡ (sqrt_call binary64 x.now).value) }
 {
-    let (number, value) = answered(math_f64::calls::sqrt_f64(*x), [0.0; 8]);
-    *out = value;
-    number
+    answered(math_f64::calls::sqrt_f64(*x), [0.0; 8], out)
 }
 
 #[unsafe(no_mangle)]
@@ -137,7 +137,8 @@ pub extern "C" fn oracle_sincos_turns_f64(
         cos: none,
         sin: none,
     };
-    let (number, value) = answered(math_f64::calls::sincos_turns_f64(*t), blank);
+    let mut value = blank;
+    let number = answered(math_f64::calls::sincos_turns_f64(*t), blank, &mut value);
     let c = value.cos;
     let s = value.sin;
     *cos = c;
@@ -159,7 +160,8 @@ pub extern "C" fn oracle_box_muller_f64(
         cos: none,
         sin: none,
     };
-    let (number, value) = answered(math_f64::calls::box_muller_f64(*u1, *u2), blank);
+    let mut value = blank;
+    let number = answered(math_f64::calls::box_muller_f64(*u1, *u2), blank, &mut value);
     let c = value.cos;
     let s = value.sin;
     *cos = c;

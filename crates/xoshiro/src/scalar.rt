@@ -92,14 +92,14 @@ fn highest_bit(word: u64) -> usize
 fn highest(poly: [u64; 4]) -> usize
     ensures { (result ≡ highest_of poly) × (result < 256) }
 {
-    let mut top = 0;
-    for (i, word) in poly.iter().enumerate() {
-        let b = highest_bit(*word);
-        if bit(*word, b) != 0 {
-            top = 64 * i + b;
+    // from the last word down: where the compiler knows which word the place is in, it writes the walk of a jump out word by word
+    for i in (0..4).rev() {
+        let b = highest_bit(poly[i]);
+        if bit(poly[i], b) != 0 {
+            return 64 * i + b;
         }
     }
-    top
+    0
 }
 
 // The sum of the states at the set bits of `poly`, word 0 first, bit 0 of each word first; a step after each bit below `top`, the highest
